@@ -39,7 +39,8 @@ HasItsNumber (Seen number before after) = (before.opened.number ≡ number) × (
 HasItsNumber (Put key number call) = call.opened.number ≡ number
 HasItsNumber _ = Unit {0}
 
-abbrev pub shown : {T : Type 0} → Shows T
+-- nothing but the methods of the table may say that it showed a look
+unfoldable pub shown : {T : Type 0} → Shows T
 shown before look after = HasItsNumber look
 
 -- what a call answers to a message that it is given, and how it goes on

@@ -72,6 +72,7 @@ impl<'a, A: Allocator + Clone> SharedCalls<'a, A> {
     }
 
     /// The number of the call whose request has this key.
+    #[tactic(auto, unfolding(crate::specs::Looks::shown))]
     pub(crate) fn find<R: Wait>(&mut self, rt: &R, key: &[u8]) -> Option<u64>
         ensures { shown self.old (Found key.now result) self.new }
     {
@@ -84,6 +85,7 @@ impl<'a, A: Allocator + Clone> SharedCalls<'a, A> {
     ///
     /// `Known` where a call has the key, with what was to be opened; else `Spent` where no number is left; `NoMemory` only where
     /// the allocator refuses.
+    #[tactic(auto, unfolding(crate::specs::Looks::shown))]
     pub(crate) fn open<R: Wait>(
         &mut self,
         rt: &R,
@@ -99,6 +101,7 @@ impl<'a, A: Allocator + Clone> SharedCalls<'a, A> {
 
     /// Gives a message to the call of a number, while no other thread looks at that call, and answers what the call answers
     /// (`Call::take`). None where there is no such call.
+    #[tactic(auto, unfolding(crate::specs::Looks::shown))]
     pub(crate) fn take<R: Wait>(
         &mut self,
         rt: &R,
@@ -116,6 +119,7 @@ impl<'a, A: Allocator + Clone> SharedCalls<'a, A> {
     }
 
     /// Gives a response to the call that the branch of its top Via value names, as `take` does.
+    #[tactic(auto, unfolding(crate::specs::Looks::shown))]
     pub(crate) fn take_response<R: Wait>(
         &mut self,
         rt: &R,
