@@ -4,12 +4,13 @@ ghost use Rattle.std.specs.Prelude.{◌≡◌, IfSome};
 use crate::holds::holds;
 use crate::outbox::Outbox;
 use crate::texts::{
-    CALL_ID, Edit, FROM, MARKED, SOURCE, becomes, lines_become, request_of, setup_of, shelf_of,
+    CALL_ID, Edit, FROM, MARKED, SOURCE, becomes, lines_become, memory_of, request_of, setup_of,
+    shelf_of,
 };
 use call_routing::is_openable;
 use call_table::{Shelf, ShelfFault};
 use fork_call::{Call, Setup, carry};
-use proxy_dispatch::Handled;
+use proxy_dispatch::{Handled, ReceivedMessage, SharedCalls, Unlimited, handle_message};
 use sip_text::Message;
 use std::alloc::Global;
 use std::sync::Wait;
@@ -259,5 +260,32 @@ fn a_response_comes_to_the_call_that_it_names(rt: HostRuntime) {
         &rt,
         respond(&rt, rt.alloc(), &responses),
         "responses, by their top Via values",
+    );
+}
+
+// ---- what was read before
+
+/// What becomes of the request as it was read, where no call stands.
+fn read_becomes<R: Wait>(rt: &R, alloc: Global) -> Option<Handled> {
+    let text = request_of(alloc, &[])?;
+    let setup = setup_of(alloc)?;
+    let shelf = shelf_of(alloc)?;
+    let received = ReceivedMessage {
+        memory: memory_of(alloc),
+        message: Message::read(alloc, &text).ok()?,
+        source: SOURCE,
+        now: 0,
+    };
+    let mut calls = SharedCalls::new(&shelf);
+    let mut outbox = Outbox::new(alloc);
+    handle_message(rt, &mut calls, &setup, &Unlimited, received, &mut outbox).ok()
+}
+
+#[test]
+fn a_request_that_was_read_opens_a_call(rt: HostRuntime) {
+    holds(
+        &rt,
+        read_becomes(&rt, rt.alloc()) == Some(Handled::Opened(0)),
+        "a request that was read",
     );
 }
