@@ -307,6 +307,23 @@ impl<A: Allocator + Copy> Service<A> {
         self.carry_visited(rt, port, number, Visit { now, is_first });
     }
 
+    /// Appends the block of the call of this number, or nothing for want of memory, and says whether such a call is kept.
+    fn write_left<R: Wait>(
+        &self,
+        rt: &R,
+        number: u64,
+        time: u64,
+        block: &mut Vec<u8, A>,
+    ) -> bool {
+        let notes = &self.calls.notes;
+        let written = self.calls.shelf.with(
+            rt,
+            number,
+            |call| write_block(rt, notes, call, time, block),
+        );
+        written.is_some()
+    }
+
     /// Rests, so many times at most, until there is room for a block of so many bytes, and answers how often it may rest from then on.
     fn await_room<R: Wait + Clock>(&self, rt: &R, bytes: usize, rests: u32) -> u32
         ensures { result ≤ rests }
@@ -334,13 +351,7 @@ impl<A: Allocator + Copy> Service<A> {
                 return;
             };
             let mut block = Vec::new(self.alloc);
-            let notes = &self.calls.notes;
-            let listed = self.calls.shelf.with(
-                rt,
-                number,
-                |call| write_block(rt, notes, call, time, &mut block),
-            );
-            if listed.is_some() {
+            if self.write_left(rt, number, time, &mut block) {
                 rests = self.await_room(rt, block.len(), rests);
                 self.write_down(rt, block.as_slice());
             }

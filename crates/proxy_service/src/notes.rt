@@ -59,11 +59,16 @@ impl CallNotes {
         }
     }
 
+    /// For how many milliseconds the call is open at this moment.
+    fn passed(&self, now: u64) -> u64 {
+        now.saturating_sub(self.opened)
+    }
+
     /// Notes the events of a history that were not looked at yet. Where memory is refused they are noted with the next ones, and so with a
     /// later moment.
     fn note_events<A: Allocator>(&mut self, history: &[Posted<A>], now: u64) {
         let before = self.notes.len();
-        let at = now.saturating_sub(self.opened);
+        let at = self.passed(now);
         let behind = history.get(self.seen..).unwrap_or(&[]);
         match add_notes(&mut self.notes, behind, at) {
             Ok(()) => self.seen = history.len(),
@@ -76,7 +81,7 @@ impl CallNotes {
         if targets.is_empty() {
             return;
         }
-        let at = now.saturating_sub(self.opened);
+        let at = self.passed(now);
         for target in 0..MOST_TARGETS {
             if targets.has(target) && !self.cancelled.has(target) {
                 let note = Note {
