@@ -122,6 +122,13 @@ impl<A: Allocator> OpenedRequest<A> {
         &self.opening.request
     }
 
+    /// The request alone, of a call that is not to be.
+    pub fn into_request(self) -> Message<A>
+        ensures { result ≡ self.request }
+    {
+        self.opening.request
+    }
+
     /// Where the answers to the caller go.
     pub fn caller(&self) -> Hop
         ensures { result ≡ self.now.caller }

@@ -18,7 +18,7 @@ use Rattle.sip_text.specs.declared.method.Method.TheVariants.{Ack, Cancel}
 use Rattle.sip_text.specs.Method.{known_method}
 use Rattle.sip_text.specs.Text.{Request, Response}
 use Rattle.call_routing.specs.Kinds.{is_request_of, is_response}
-use Rattle.call_routing.specs.Matching.{BelongsTo, BelongsToNone}
+use Rattle.call_routing.specs.Matching.{BelongsTo, BelongsToNone, IsReadBranch}
 use Rattle.call_routing.specs.inner.Matching.{BelongsToNoBranch, BelongsToNoServer}
 
 pub numbered : (call : BranchName) (n : ℕ) → IsBranch call → n < 2 ^ 16 → IsBranch (record call { target = n })
@@ -69,7 +69,10 @@ module _ (call : Call) (m : MessageText) where
   to_none branch server (Client n) b = (branch n).0 b
   to_none branch server (CancelClient n) b = (branch n).1 b
 
-  no_home : ((n : ℕ) → n < 2 ^ 16 → IsHome n → ⊥) → BelongsToNoBranch call m
+  pub ours : (opened : OpenedRequest) (b : BranchName) (n : ℕ) → opened ≡ call.opened → b ≡ branch_at opened 0 → record b { target = n } ≡ branch_at call.opened n
+  ours opened b n s q = ap (λ (x : BranchName). record x { target = n }) q ∙ ap (λ (x : OpenedRequest). branch_at x n) s
+
+  pub no_home : ((n : ℕ) → n < 2 ^ 16 → IsHome n → ⊥) → BelongsToNoBranch call m
   no_home h n = (λ b. h n b.0.number b.0.via, λ b. h n b.0.number b.0.via)
 
   -- the branch is known, and no transaction of it takes the response
@@ -92,17 +95,20 @@ module _ (call : Call) (m : MessageText) where
           and_from (is_to_method (codes "CANCEL") (message_cseq m.headers)) (is_cancel_sent call n) b.0.to_method b.1 in
           false≢true (sym f ∙ ap (for_cancel call m) same ∙ well)
 
-  -- the branch of the call is looked for by its address and by the name of its branches
-  pub at_home : (opened : OpenedRequest) (own : Own) (value : List ℕ) (b : BranchName) (r : Option ℕ) → opened ≡ call.opened → own ≡ opened.own
-      → value ≡ top_value m → b ≡ branch_at opened 0
-      → ((n : ℕ) → n < 2 ^ 16 → IsOwnBranch own value (record b { target = n }) → r ≡ Some n)
+  -- the branch that the response names is the only one by which it comes home
+  pub at_home : (opened : OpenedRequest) (b name : BranchName) (r : Option ℕ) → opened ≡ call.opened → b ≡ branch_at opened 0
+      → ((n : ℕ) → n < 2 ^ 16 → IsBranch (record b { target = n })) → IsReadBranch call.opened.own (top_value m) name
+      → ((n : ℕ) → name ≡ record b { target = n } → r ≡ Some n)
       → (n : ℕ) → n < 2 ^ 16 → IsHome n → r ≡ Some n
-  at_home opened own value b r s p v q only n lt home =
-      let P : BranchName → Type 0 = λ x. IsOwnBranch opened.own (top_value m) (record x { target = n }) in
-      let Q : Own → Type 0 = λ o. IsOwnBranch o (top_value m) (record b { target = n }) in
-      let R : OpenedRequest → Type 0 = λ f. IsOwnBranch f.own (top_value m) (branch_at f n) in
-      let V : List ℕ → Type 0 = λ x. IsOwnBranch own x (record b { target = n }) in
-      only n lt (subst V (sym v) (subst Q (sym p) (subst P (sym q) (subst R (sym s) home))))
+  at_home opened b name r s q bounded read only n lt home =
+      let P : BranchName → Type 0 = λ x. IsOwnBranch call.opened.own (top_value m) x in
+      only n (sym (read.only (record b { target = n }) (bounded n lt) (subst P (sym (ours opened b n s q)) home)))
+
+  pub home_at : (opened : OpenedRequest) (b name : BranchName) (n : ℕ) → opened ≡ call.opened → b ≡ branch_at opened 0
+      → IsReadBranch call.opened.own (top_value m) name → name ≡ record b { target = n } → IsOwnBranch call.opened.own (top_value m) (branch_at call.opened n)
+  home_at opened b name n s q read e =
+      let P : BranchName → Type 0 = λ x. IsOwnBranch call.opened.own (top_value m) x in
+      subst P (e ∙ ours opened b n s q) read.names
 
   pub none_home : ((n : ℕ) → n < 2 ^ 16 → IsHome n → None ≡ Some n) → BelongsToNoBranch call m
   none_home only = no_home (λ n lt home. let e = only n lt home in absurd cc)
@@ -124,3 +130,19 @@ no_request call m e = (
   λ b. not_known Ack m.start e b.request,
   λ b. not_known Cancel m.start e b.request,
 )
+
+-- ---- what a response belongs to
+
+pub none_at_all : (call : Call) (m : MessageText) → is_response m.start ≡ true → BelongsToNoBranch call m → BelongsToNone call m
+none_at_all call m e no = to_none call m no (no_request call m e)
+
+-- its top Via value names no branch of the proxy's own
+pub unnamed : (call : Call) (m : MessageText) (opened : OpenedRequest) (own : Own) (b : BranchName) → is_response m.start ≡ true → opened ≡ call.opened → own ≡ opened.own
+    → b ≡ branch_at opened 0 → ((n : ℕ) → n < 2 ^ 16 → IsBranch (record b { target = n }))
+    → ((other : BranchName) → IsBranch other → IsOwnBranch own (top_value m) other → ⊥) → BelongsToNone call m
+unnamed call m opened own b e s p q bounded none =
+    let P : Own → Type 0 = λ o. (other : BranchName) → IsBranch other → IsOwnBranch o (top_value m) other → ⊥ in
+    let Q : BranchName → Type 0 = λ x. IsBranch x in
+    let never = subst P (p ∙ ap (λ (x : OpenedRequest). x.own) s) none in
+    none_at_all call m e
+    (no_home call m (λ n lt home. never (branch_at call.opened n) (subst Q (ours call m opened b n s q) (bounded n lt)) home))

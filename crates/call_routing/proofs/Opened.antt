@@ -13,8 +13,12 @@ use Rattle.sip_build.specs.Forwarding.{is_request}
 use Rattle.proxy_config.specs.Setup.{Setup}
 use Rattle.proxy_routing.specs.declared.fault.RequestRejection.{RequestRejection}
 use Rattle.proxy_routing.specs.declared.fault.RequestRejection.TheVariants.{BadRequest, Scheme, Hops, Loop, Extension, NoTarget, NoHop, NoMemory}
-use Rattle.proxy_routing.specs.Admission.{asks_extension}
-use Rattle.call_routing.specs.Opening.{Asks, IsOpenable, IsRefused, IsUnreachable, Opens, Reaches, Refuses, candidates_for, opened_of, record_route_of, tried_by}
+use Rattle.proxy_routing.specs.declared.unrouted.Unrouted.{Unrouted}
+use Rattle.proxy_routing.specs.declared.unrouted.Unrouted.TheVariants as unrouted
+use Rattle.proxy_routing.specs.Admission.{IsPrepared, asks_extension}
+use Rattle.proxy_routing.specs.Unrouted.{IfRejected, IsGivenBack, IsTurnedBack}
+use Rattle.call_routing.specs.Opening.{Asks, IsOpenable, IsRefused, IsRefusedFor, IsUnreachable, Opens, Reaches, Refuses, candidates_for, opened_of, record_route_of, tried_by}
+use Rattle.call_routing.specs.inner.Refused.{IsRefusedAs, IsUnreachableAs}
 use Rattle.call_model.specs.declared.tried_contacts.TriedContacts.{TriedContacts}
 use Rattle.proxy_routing.specs.Targets.{candidates, candidates_by, hop_if_any, is_domain}
 
@@ -22,7 +26,7 @@ pub openable : (start other : StartText) → start ≡ other → IsOpenable othe
 openable start (texts.Request method uri) e h = ap is_request e
 openable start (texts.Response status reason) e h = absurd cc
 
-pub turned_away : (setup : Setup) (m : MessageText) (source : Hop) (fault : RequestRejection) → IsTurnedAway setup m source fault → Refuses setup m source fault
+turned_away : (setup : Setup) (m : MessageText) (source : Hop) (fault : RequestRejection) → IsTurnedAway setup m source fault → Refuses setup m source fault
 turned_away setup m source BadRequest h = h
 turned_away setup m source Scheme h = h
 turned_away setup m source Hops h = h
@@ -30,7 +34,7 @@ turned_away setup m source Loop h = h
 turned_away setup m source Extension h = absurd h
 turned_away setup m source NoTarget h = absurd h
 turned_away setup m source NoHop h = absurd h
-turned_away setup m source NoMemory h = tt
+turned_away setup m source NoMemory h = absurd h
 
 behind : (setup : Setup) (m : MessageText) (source : Hop) (request : MessageText) → IsAdmitted setup m source request
     → (fault : RequestRejection) → IsRefused setup request fault → Refuses setup m source fault
@@ -41,7 +45,7 @@ behind setup m source request a Loop h = absurd h
 behind setup m source request a Extension h = (request, a, h)
 behind setup m source request a NoTarget h = (request, a, h)
 behind setup m source request a NoHop h = (request, a, h)
-behind setup m source request a NoMemory h = tt
+behind setup m source request a NoMemory h = absurd h
 
 asked : (setup : Setup) (request : MessageText) (uri : Uri) → asks_extension request ≡ false → target_uri request ≡ Ok uri
     → (fault : RequestRejection) → IsUnreachable setup request uri fault → IsRefused setup request fault
@@ -52,29 +56,57 @@ asked setup request uri a t Loop h = absurd h
 asked setup request uri a t Extension h = absurd h
 asked setup request uri a t NoTarget h = (a, uri, t, h)
 asked setup request uri a t NoHop h = (a, uri, t, h)
-asked setup request uri a t NoMemory h = tt
+asked setup request uri a t NoMemory h = absurd h
 
--- of what is answered for a request that was admitted
-pub opens_if : (setup : Setup) (number : ℕ) (m : MessageText) (source : Hop) (request : MessageText) → IsAdmitted setup m source request
-    → (r : Result Call RequestRejection) → IfOk r (λ call. Asks request (λ uri. Reaches setup number request source uri call)) → IfOk r (Opens setup number m source)
-opens_if setup number m source request a (Ok call) h = (request, a, h)
-opens_if setup number m source request a (Err fault) h = tt
+-- what a fault behind the first four steps gives back
+given_back : (setup : Setup) (m : MessageText) (source : Hop) (request back : MessageText) → IsAdmitted setup m source request → back ≡ request
+    → (fault : RequestRejection) → IsRefused setup request fault → IsGivenBack setup m source fault back
+given_back setup m source request back a e BadRequest h = absurd h
+given_back setup m source request back a e Scheme h = absurd h
+given_back setup m source request back a e Hops h = absurd h
+given_back setup m source request back a e Loop h = absurd h
+given_back setup m source request back a e Extension h = let P : MessageText → Type 0 = λ x. IsPrepared setup m source x in subst P (sym e) a.prepared
+given_back setup m source request back a e NoTarget h = let P : MessageText → Type 0 = λ x. IsPrepared setup m source x in subst P (sym e) a.prepared
+given_back setup m source request back a e NoHop h = let P : MessageText → Type 0 = λ x. IsPrepared setup m source x in subst P (sym e) a.prepared
+given_back setup m source request back a e NoMemory h = absurd h
 
-pub refuses_if : (setup : Setup) (m : MessageText) (source : Hop) (request : MessageText) → IsAdmitted setup m source request
-    → (r : Result Call RequestRejection) → IfErr r (IsRefused setup request) → IfErr r (Refuses setup m source)
-refuses_if setup m source request a (Ok call) h = tt
-refuses_if setup m source request a (Err fault) h = behind setup m source request a fault h
+module _ {A : Type 0} where
+  pub turned_back : (setup : Setup) (m : MessageText) (source : Hop) (why : Unrouted A) → IfRejected (IsTurnedBack setup m source) why → IfRejected (IsRefusedFor setup m source) why
+  turned_back setup m source (unrouted.Rejected fault back) h = (turned_away setup m source fault h.0, h.1)
+  turned_back setup m source unrouted.NoMemory h = tt
 
--- and of one that asks for no extension
-pub asks_if : (setup : Setup) (number : ℕ) (source : Hop) (request : MessageText) (uri : Uri) → asks_extension request ≡ false → target_uri request ≡ Ok uri
-    → (r : Result Call RequestRejection) → IfOk r (Reaches setup number request source uri) → IfOk r (λ call. Asks request (λ u. Reaches setup number request source u call))
-asks_if setup number source request uri a t (Ok call) h = (a, uri, t, h)
-asks_if setup number source request uri a t (Err fault) h = tt
+  behind_if : (setup : Setup) (m : MessageText) (source : Hop) (request : MessageText) → IsAdmitted setup m source request
+      → (why : Unrouted A) → IfRejected (IsRefusedAs setup request) why → IfRejected (IsRefusedFor setup m source) why
+  behind_if setup m source request a (unrouted.Rejected fault back) h =
+      (behind setup m source request a fault h.0, given_back setup m source request back a h.1 fault h.0)
+  behind_if setup m source request a unrouted.NoMemory h = tt
 
-pub asked_if : (setup : Setup) (request : MessageText) (uri : Uri) → asks_extension request ≡ false → target_uri request ≡ Ok uri
-    → (r : Result Call RequestRejection) → IfErr r (IsUnreachable setup request uri) → IfErr r (IsRefused setup request)
-asked_if setup request uri a t (Ok call) h = tt
-asked_if setup request uri a t (Err fault) h = asked setup request uri a t fault h
+  asked_so : (setup : Setup) (request : MessageText) (uri : Uri) → asks_extension request ≡ false → target_uri request ≡ Ok uri
+      → (why : Unrouted A) → IfRejected (IsUnreachableAs setup request uri) why → IfRejected (IsRefusedAs setup request) why
+  asked_so setup request uri a t (unrouted.Rejected fault back) h = (asked setup request uri a t fault h.0, h.1)
+  asked_so setup request uri a t unrouted.NoMemory h = tt
+
+  -- of what is answered for a request that was admitted
+  pub opens_if : (setup : Setup) (number : ℕ) (m : MessageText) (source : Hop) (request : MessageText) → IsAdmitted setup m source request
+      → (r : Result Call (Unrouted A)) → IfOk r (λ call. Asks request (λ uri. Reaches setup number request source uri call)) → IfOk r (Opens setup number m source)
+  opens_if setup number m source request a (Ok call) h = (request, a, h)
+  opens_if setup number m source request a (Err why) h = tt
+
+  pub refuses_if : (setup : Setup) (m : MessageText) (source : Hop) (request : MessageText) → IsAdmitted setup m source request
+      → (r : Result Call (Unrouted A)) → IfErr r (IfRejected (IsRefusedAs setup request)) → IfErr r (IfRejected (IsRefusedFor setup m source))
+  refuses_if setup m source request a (Ok call) h = tt
+  refuses_if setup m source request a (Err why) h = behind_if setup m source request a why h
+
+  -- and of one that asks for no extension
+  pub asks_if : (setup : Setup) (number : ℕ) (source : Hop) (request : MessageText) (uri : Uri) → asks_extension request ≡ false → target_uri request ≡ Ok uri
+      → (r : Result Call (Unrouted A)) → IfOk r (Reaches setup number request source uri) → IfOk r (λ call. Asks request (λ u. Reaches setup number request source u call))
+  asks_if setup number source request uri a t (Ok call) h = (a, uri, t, h)
+  asks_if setup number source request uri a t (Err why) h = tt
+
+  pub asked_if : (setup : Setup) (request : MessageText) (uri : Uri) → asks_extension request ≡ false → target_uri request ≡ Ok uri
+      → (r : Result Call (Unrouted A)) → IfErr r (IfRejected (IsUnreachableAs setup request uri)) → IfErr r (IfRejected (IsRefusedAs setup request))
+  asked_if setup request uri a t (Ok call) h = tt
+  asked_if setup request uri a t (Err why) h = asked_so setup request uri a t why h
 
 -- ---- the call that opens for a request to a URI
 

@@ -4,6 +4,9 @@ use Rattle.sip_text.specs.declared.method.Method.TheVariants.{Ack, Cancel}
 use Rattle.sip_text.specs.Fields.{message_cseq}
 use Rattle.sip_text.specs.Method.{known_method}
 use Rattle.sip_text.specs.Text.{MessageText, StartText}
+use Rattle.sip_via.specs.declared.branch.BranchName.{BranchName}
+use Rattle.sip_via.specs.declared.own.Own.{Own}
+use Rattle.sip_via.specs.BranchText.{IsBranch}
 use Rattle.sip_via.specs.OwnPass.{IsOwnBranch}
 use Rattle.sip_via.specs.TopVia.{has_second, top_value, via_values}
 use Rattle.sip_route.specs.RequestKey.{request_key}
@@ -30,6 +33,11 @@ pub record Answers (opened : OpenedRequest) (method : List ℕ) (n : ℕ) (m : M
   pub number : n < 2 ^ 16
   pub via : IsOwnBranch opened.own (top_value m) (branch_at opened n)
   pub to_method : is_to_method method (message_cseq m.headers) ≡ true
+
+-- the branch that such a value names, and no other
+pub record IsReadBranch (own : Own) (value : List ℕ) (branch : BranchName) : Type 0 where
+  pub names : IsOwnBranch own value branch
+  pub only : (other : BranchName) → IsBranch other → IsOwnBranch own value other → other ≡ branch
 
 -- ---- the transactions of a call
 

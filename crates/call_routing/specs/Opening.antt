@@ -24,6 +24,7 @@ use Rattle.proxy_routing.specs.declared.fault.RequestRejection.{RequestRejection
 use Rattle.proxy_routing.specs.declared.fault.RequestRejection.TheVariants.{BadRequest, Scheme, Hops, Loop, Extension, NoTarget, NoHop, NoMemory}
 use Rattle.proxy_routing.specs.Admission.{IsAdmitted, asks_extension, target_uri}
 use Rattle.proxy_routing.specs.Refusing.{IsTurnedAway}
+use Rattle.proxy_routing.specs.Unrouted.{IsGivenBack}
 use Rattle.call_routing.specs.Destinations.{AreDestinations}
 use Rattle.proxy_routing.specs.Targets.{CandidateTarget, candidates, has_hop, hop_if_any, is_domain, targets_of}
 
@@ -78,8 +79,6 @@ abbrev pub IsUnreachable : Setup → MessageText → Uri → RequestRejection �
 IsUnreachable setup request uri NoTarget = candidates_for setup request uri ≡ []
 IsUnreachable setup request uri NoHop =
     (candidates_for setup request uri ≢ []) × (list_all has_hop (candidates_for setup request uri) ≡ false)
--- want of memory says nothing
-IsUnreachable setup request uri NoMemory = Unit {0}
 -- the others come before these steps
 IsUnreachable setup request uri _ = ⊥
 
@@ -98,7 +97,6 @@ abbrev pub IsRefused : Setup → MessageText → RequestRejection → Type 0
 IsRefused setup request Extension = asks_extension request ≡ true
 IsRefused setup request NoTarget = Asks request (λ uri. IsUnreachable setup request uri NoTarget)
 IsRefused setup request NoHop = Asks request (λ uri. IsUnreachable setup request uri NoHop)
-IsRefused setup request NoMemory = Unit {0}
 IsRefused setup request _ = ⊥
 
 -- for the request as it was prepared behind these four
@@ -115,6 +113,10 @@ Refuses setup m source Extension = Admitted setup m source (λ request. IsRefuse
 Refuses setup m source NoTarget = Admitted setup m source (λ request. IsRefused setup request NoTarget)
 Refuses setup m source NoHop = Admitted setup m source (λ request. IsRefused setup request NoHop)
 Refuses setup m source NoMemory = Unit {0}
+
+-- with what the request is given back as
+abbrev pub IsRefusedFor : Setup → MessageText → Hop → RequestRejection → MessageText → Type 0
+IsRefusedFor setup m source fault back = Refuses setup m source fault × IsGivenBack setup m source fault back
 
 -- or the call, where none holds
 abbrev pub Opens : Setup → ℕ → MessageText → Hop → Call → Type 0

@@ -5,8 +5,10 @@
 
 mod matching;
 mod opening;
+mod opening_request;
 mod transaction;
 
-pub use matching::match_transaction;
+pub use matching::{match_response, match_transaction};
 pub use opening::{admitted_target, is_openable, open, read_target};
+pub use opening_request::{Memory, OpeningRequest};
 pub use transaction::MatchedTransaction;

@@ -2,19 +2,19 @@
 ghost use Rattle.std.specs.Prelude.{◌≡◌, ◌<◌, ◌^◌, ◌&&◌, ℕ, codes, true, IfNone, IfSome, Some};
 ghost use Rattle.sip_text.specs.Fields.{message_cseq};
 ghost use Rattle.sip_via.specs.BranchText.{IsBranch};
-ghost use Rattle.sip_via.specs.OwnPass.{IsOwnBranch};
+ghost use Rattle.sip_via.specs.TopVia.{top_value};
 ghost use Rattle.call_model.specs.Call.{is_cancel_sent, is_sent};
 ghost use Rattle.call_model.specs.OpenedRequest.{method_of};
 ghost use Rattle.call_routing.specs.Kinds.{is_request_of, is_response, is_to_method};
-ghost use Rattle.call_routing.specs.Matching.{BelongsTo, BelongsToNone};
-ghost use Rattle.call_routing.specs.inner.Matching.{BelongsToNoBranch, BelongsToNoServer};
+ghost use Rattle.call_routing.specs.Matching.{BelongsTo, BelongsToNone, IsReadBranch};
+ghost use Rattle.call_routing.specs.inner.Matching.{BelongsToNoServer};
 ghost use Rattle.call_routing.specs.SeenMatchedTransaction.{seen_recipient};
 
 use crate::transaction::MatchedTransaction;
 use call_state::CallState;
 use sip_route::has_same_key;
 use sip_text::{Message, Method, Start};
-use sip_via::{BranchName, Own, own_branch_of, top_and_second};
+use sip_via::{BranchName, own_branch, top_and_second};
 use std::alloc::Allocator;
 
 /// Shows that the numbers of a branch are bounded.
@@ -22,14 +22,12 @@ fn is_branch(name: BranchName)
     ensures { IsBranch name }
 {}
 
-/// The target that a Via value names, where it names a branch of the call.
-fn target_of(value: &[u8], own: Own, call: BranchName) -> Option<u16>
-    ensures found { IfSome result (λ n. IsOwnBranch own value.now (record call { target = n })) }
+/// The target that a branch names, where it is one of the call's.
+fn target_of(name: BranchName, call: BranchName) -> Option<u16>
+    ensures found { IfSome result (λ n. name ≡ record call { target = n }) }
     ensures bounded { IfSome result (λ n. n < 2 ^ 16) }
-    ensures only { (n : ℕ) → n < 2 ^ 16 → IsOwnBranch own value.now (record call { target = n }) → result ≡ Some n }
+    ensures only { (n : ℕ) → name ≡ record call { target = n } → result ≡ Some n }
 {
-    is_branch(call);
-    let name = own_branch_of(value, own)?;
     let key = call.key;
     let ours = BranchName {
         key,
@@ -102,26 +100,52 @@ fn is_for_cancel<A: Allocator + Clone>(state: &CallState<A>, message: &Message<A
     is_to_method(message, b"CANCEL") && state.is_cancel_sent(n)
 }
 
-/// The transaction of a branch that a response is for: its top Via value is the one that the proxy put there with the
-/// request or the CANCEL, which was sent (RFC 3261 sections 16.7 step 1 and 17.1.3).
+/// Shows that the branches of a call are bounded.
+fn are_branches(call: BranchName)
+    ensures { (n : ℕ) → n < 2 ^ 16 → IsBranch (record call { target = n }) }
+{
+    is_branch(call);
+}
+
+/// The transaction of a call that a response is for, whose top Via value is that of this branch of the proxy's own: the proxy put
+/// it there with the request or the CANCEL, which was sent (RFC 3261 sections 16.7 step 1 and 17.1.3). The search takes no memory.
+#[tactic(auto, using(crate::proofs::Matched::home_at))]
+pub fn match_response<A: Allocator + Clone>(
+    state: &CallState<A>,
+    response: &Message<A>,
+    branch: BranchName,
+) -> Option<MatchedTransaction>
+    requires response { is_response response.now.start ≡ true }
+    requires named { IsReadBranch state.now.opened.own (top_value response.now) branch }
+    ensures found { IfSome result (λ r. BelongsTo state.now response.now (seen_recipient r)) }
+    ensures none { IfNone result (BelongsToNone state.now response.now) }
+{
+    let call = state.opened().branch(0);
+    are_branches(call);
+    let n = target_of(branch, call)?;
+    let (_, second) = top_and_second(response);
+    if is_for_client(state, response, second, n) {
+        return Some(MatchedTransaction::Client(n));
+    }
+    if is_for_cancel(state, response, n) {
+        return Some(MatchedTransaction::CancelClient(n));
+    }
+    None
+}
+
+/// The transaction of a branch that a response is for, whose top Via value is yet to be read.
 fn response_recipient<A: Allocator + Clone>(
     state: &CallState<A>,
     message: &Message<A>,
 ) -> Option<MatchedTransaction>
     requires { is_response message.now.start ≡ true }
     ensures found { IfSome result (λ r. BelongsTo state.now message.now (seen_recipient r)) }
-    ensures none { IfNone result (BelongsToNoBranch state.now message.now) }
+    ensures none { IfNone result (BelongsToNone state.now message.now) }
 {
     let opened = state.opened();
-    let (top, second) = top_and_second(message);
-    let n = target_of(top, opened.own(), opened.branch(0))?;
-    if is_for_client(state, message, second, n) {
-        return Some(MatchedTransaction::Client(n));
-    }
-    if is_for_cancel(state, message, n) {
-        return Some(MatchedTransaction::CancelClient(n));
-    }
-    None
+    are_branches(opened.branch(0));
+    let branch = own_branch(message, opened.own())?;
+    match_response(state, message, branch)
 }
 
 /// The part that a request plays in the caller's transaction: it has the key of the call's own request, and is that
@@ -151,7 +175,7 @@ fn request_recipient<A: Allocator + Clone>(
 /// is for a transaction of a branch where its top Via value is the one that the proxy put into the request or the
 /// CANCEL that it sent there (RFC 3261 sections 9.2, 16.7 steps 1 and 3, 17.1.3 and 17.2.3). The search takes no
 /// memory.
-#[tactic(auto, using(crate::proofs::Matched::to_none, crate::proofs::Matched::no_request, crate::proofs::Matched::no_response))]
+#[tactic(auto, using(crate::proofs::Matched::to_none, crate::proofs::Matched::no_response))]
 pub fn match_transaction<A: Allocator + Clone>(
     state: &CallState<A>,
     message: &Message<A>,

@@ -11,12 +11,15 @@ ghost use Rattle.sip_build.specs.Forwarding.{is_request};
 ghost use Rattle.fork_rank.specs.KindView as kinds;
 ghost use Rattle.fork_model.specs.Log.{opening_log, table_of};
 ghost use Rattle.proxy_routing.specs.Admission.{target_uri};
-ghost use Rattle.call_routing.specs.Opening.{Asks, IsBegun, IsOpenable, IsRefused, IsUnreachable, Opens, Reaches, Refuses, record_route_of, tried_by};
+ghost use Rattle.proxy_routing.specs.Unrouted.{IfRejected};
+ghost use Rattle.call_routing.specs.Opening.{Asks, IsBegun, IsOpenable, IsRefusedFor, Opens, Reaches, record_route_of, tried_by};
+ghost use Rattle.call_routing.specs.inner.Refused.{IsRefusedAs, IsUnreachableAs};
 ghost use Rattle.call_routing.specs.Destinations.{AreDestinations, destination_to};
 ghost use Rattle.call_routing.specs.inner.Distinct.{AreDistinct};
 ghost use Rattle.sip_uri.specs.Fault.{Gives, refusal};
 ghost use Rattle.proxy_routing.specs.Targets.{has_hop, targets_of};
 
+use crate::opening_request::{Memory, OpeningRequest};
 use call_answers::place_of;
 use call_branch::{Destination, OpenedRequest, Opening};
 use call_model::TriedContacts;
@@ -26,7 +29,7 @@ use fork_context::{Kind, NewFault};
 use fork_rank::Rules;
 use proxy_config::{Setup, locations_are_targets};
 use proxy_routing::{
-    CandidateTarget, RequestRejection, asks_extension, candidates, have_hops, hop_if_any,
+    CandidateTarget, RequestRejection, Unrouted, asks_extension, candidates, have_hops, hop_if_any,
     is_domain, targets_of, validate_request,
 };
 use sip_build::{opens_dialog, write_own_route};
@@ -211,36 +214,40 @@ fn record_route_of<A: Allocator>(
     Ok(Some(value))
 }
 
+/// The number of a call until it gets its own.
+const NO_NUMBER: u64 = 0;
+
 /// The state of the call that opens for a request to this URI, as it was prepared.
 fn open_to<A: Allocator + Clone>(
-    alloc: A,
-    heap: Global,
     setup: &Setup<A>,
-    number: u64,
-    request: Message<A>,
+    opening: OpeningRequest<A>,
     uri: &SipUri<A>,
-    source: Hop,
-    now: u64,
-) -> Result<CallState<A>, RequestRejection>
-    requires request { is_request request.start ≡ true }
-    requires hops { IfSome (first_value hops_name request.headers) IsHops }
-    ensures opened { IfOk result (Reaches setup.now number request source uri.now) }
-    ensures refused { IfErr result (IsUnreachable setup.now request uri.now) }
+) -> Result<CallState<A>, Unrouted<A>>
+    requires request { is_request opening.request.start ≡ true }
+    requires hops { IfSome (first_value hops_name opening.request.headers) IsHops }
+    ensures opened { IfOk result (Reaches setup.now 0 opening.request opening.source uri.now) }
+    ensures refused { IfErr result (IfRejected (IsUnreachableAs setup.now opening.request uri.now)) }
 {
+    let OpeningRequest {
+        memory: Memory { alloc, heap },
+        request,
+        source,
+        now,
+    } = opening;
     let route = first_route(&request);
     let inside = is_domain(setup, uri);
     let candidates = candidates(alloc.clone()?, setup, inside, route, uri)?;
     if candidates.is_empty() {
-        return Err(RequestRejection::NoTarget);
+        return Err(Unrouted::Rejected(RequestRejection::NoTarget, request));
     }
     if !have_hops(&candidates) {
-        return Err(RequestRejection::NoHop);
+        return Err(Unrouted::Rejected(RequestRejection::NoHop, request));
     }
     let streams = setup.has_streams();
     let record_route = record_route_of(alloc.clone()?, setup, &request)?;
     let caller = reply_hop_of(&request, source);
     let opened = OpenedRequest::new(Opening {
-        number,
+        number: NO_NUMBER,
         own: setup.own(),
         instance: setup.instance(),
         request,
@@ -256,31 +263,26 @@ fn open_to<A: Allocator + Clone>(
     let _locations = setup.locations();
     match begin(alloc, heap, setup.rules(), opened, &candidates, now) {
         Ok(state) => Ok(state),
-        Err(_) => Err(RequestRejection::NoMemory),
+        Err(AllocError) => Err(Unrouted::NoMemory),
     }
 }
 
 /// The state of the call that opens for a request as it was prepared.
 fn open_prepared<A: Allocator + Clone>(
-    alloc: A,
-    heap: Global,
     setup: &Setup<A>,
-    number: u64,
-    request: Message<A>,
-    source: Hop,
-    now: u64,
-) -> Result<CallState<A>, RequestRejection>
-    requires request { is_request request.start ≡ true }
-    requires hops { IfSome (first_value hops_name request.headers) IsHops }
-    requires readable { IsOk (target_uri request) }
-    ensures opened { IfOk result (λ call. Asks request (λ uri. Reaches setup.now number request source uri call)) }
-    ensures refused { IfErr result (IsRefused setup.now request) }
+    opening: OpeningRequest<A>,
+) -> Result<CallState<A>, Unrouted<A>>
+    requires request { is_request opening.request.start ≡ true }
+    requires hops { IfSome (first_value hops_name opening.request.headers) IsHops }
+    requires readable { IsOk (target_uri opening.request) }
+    ensures opened { IfOk result (λ call. Asks opening.request (λ uri. Reaches setup.now 0 opening.request opening.source uri call)) }
+    ensures refused { IfErr result (IfRejected (IsRefusedAs setup.now opening.request)) }
 {
-    if asks_extension(&request) {
-        return Err(RequestRejection::Extension);
+    if asks_extension(&opening.request) {
+        return Err(Unrouted::Rejected(RequestRejection::Extension, opening.request));
     }
-    let uri = admitted_target(alloc.clone()?, &request)?;
-    open_to(alloc, heap, setup, number, request, &uri, source, now)
+    let uri = admitted_target(opening.memory.alloc.clone()?, &opening.request)?;
+    open_to(setup, opening, &uri)
 }
 
 /// Whether a message is a request that may open a call: neither an ACK nor a CANCEL, which are for a call that was opened
@@ -291,30 +293,39 @@ pub fn is_openable<A: Allocator>(message: &Message<A>) -> bool
     message.stands_alone()
 }
 
-/// The state of the call that a request from `source` opens under this number; the request is neither an ACK nor a
-/// CANCEL. The targets of a request to the domain are the locations of its user; the one target of any other is its
-/// Request-URI, for which the proxy is not responsible: contacts of a 3xx are tried in the domain alone (RFC 3261
-/// sections 16.3 to 16.6). Nothing was sent yet; a 100 is owed to an INVITE. The queue of what is owed to the caller
-/// lies on `heap`, all else in `alloc`.
+/// The state of the call that a request opens; the request is neither an ACK nor a CANCEL. The targets of a request to the domain
+/// are the locations of its user; the one target of any other is its Request-URI, for which the proxy is not responsible:
+/// contacts of a 3xx are tried in the domain alone (RFC 3261 sections 16.3 to 16.6). Nothing was sent yet; a 100 is owed to an
+/// INVITE. The call has number 0 until it is given its own.
 ///
 /// # Errors
 ///
-/// The first of those of [`RequestRejection`] that holds; `NoMemory` wherever the allocator refuses.
+/// `Rejected` with the first of those of [`RequestRejection`] that holds, and the request as far as it was prepared; `NoMemory`
+/// wherever the allocator refuses.
 pub fn open<A: Allocator + Clone>(
-    alloc: A,
-    heap: Global,
     setup: &Setup<A>,
-    number: u64,
-    request: Message<A>,
-    source: Hop,
-    now: u64,
-) -> Result<CallState<A>, RequestRejection>
-    requires { IsOpenable request.start }
-    ensures opened { IfOk result (Opens setup.now number request source) }
-    ensures refused { IfErr result (Refuses setup.now request source) }
+    opening: OpeningRequest<A>,
+) -> Result<CallState<A>, Unrouted<A>>
+    requires { IsOpenable opening.request.start }
+    ensures opened { IfOk result (Opens setup.now 0 opening.request opening.source) }
+    ensures refused { IfErr result (IfRejected (IsRefusedFor setup.now opening.request opening.source)) }
 {
-    match validate_request(alloc.clone()?, setup, request, source) {
-        Ok(request) => open_prepared(alloc, heap, setup, number, request, source, now),
-        Err(fault) => Err(fault),
+    let OpeningRequest {
+        memory,
+        request,
+        source,
+        now,
+    } = opening;
+    match validate_request(memory.alloc.clone()?, setup, request, source) {
+        Ok(request) => open_prepared(
+            setup,
+            OpeningRequest {
+                memory,
+                request,
+                source,
+                now,
+            },
+        ),
+        Err(why) => Err(why),
     }
 }

@@ -156,6 +156,13 @@ impl<A: Allocator + Clone> CallState<A> {
         &self.opened
     }
 
+    /// The request alone that the call was opened with, of a call that is not to be.
+    pub fn into_request(self) -> Message<A>
+        ensures { result ≡ self.opened.request }
+    {
+        self.opened.into_request()
+    }
+
     /// The events that were posted, and the context that they lead to.
     pub fn book(&self) -> &Book<A>
         ensures { result.now ≡ self.now.log }

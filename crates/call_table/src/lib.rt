@@ -8,4 +8,4 @@ mod key_table;
 mod shelf;
 
 pub use inbox::{Inbox, InboxIn, InboxOut, MOST_JOBS};
-pub use shelf::{Numbered, Removal, Shelf, ShelfFault};
+pub use shelf::{Numbered, Pending, PendingFault, Removal, Shelf, ShelfFault};

@@ -1,8 +1,8 @@
 //! Values under numbers and keys, each behind a lock of its own.
-ghost use Rattle.std.specs.Prelude.{◌≡◌, ◌+◌, ◌≤◌, ℕ, true, List, Ok, Err, Some, IfErr, IfNone, IfOk, IfSome, OnOk, OnErr};
+ghost use Rattle.std.specs.Prelude.{◌≡◌, ◌+◌, ◌≤◌, ◌<◌, ◌^◌, ℕ, true, List, Ok, Err, None, Some, IfErr, IfNone, IfOk, IfSome, OnOk, OnErr};
 ghost use Rattle.std.specs.Fn.{FnOnceReturnsAtMut};
 ghost use Rattle.call_table.specs.inner.KeyTable.{number_of, IsListed, IsSame, IsUnlisted};
-ghost use Rattle.call_table.specs.Faults.{IfMade};
+ghost use Rattle.call_table.specs.Faults.{IfKnown, IfMade};
 ghost use Rattle.call_table.specs.Removals.{said};
 
 use crate::entries::{Entries, Entry};
@@ -34,6 +34,31 @@ pub enum ShelfFault<E> {
     /// What makes the value refused.
     #[error("the value was not made")]
     Made(#[derive_where(skip)] E),
+    /// A growth was refused.
+    #[error("out of memory")]
+    NoMemory,
+}
+
+/// What becomes a value of a shelf once it has a number.
+pub trait Pending<T: Numbered> {
+    ghost becomes: { Self → ℕ → T → Type 0 };
+
+    /// The value under this number.
+    fn numbered(self, number: u64) -> T
+        ensures becomes { becomes self number result }
+        ensures number { T.number_of result ≡ number };
+}
+
+/// Why what was to become a value was not put, in the order in which the causes are looked for.
+#[derive(Drop, Error)]
+#[derive_where(Debug)]
+pub enum PendingFault<P> {
+    /// The key has this number already. What was to become a value is given back.
+    #[error("the key has number {0}")]
+    Known(u64, #[derive_where(skip)] P),
+    /// No number is left.
+    #[error("no number is left")]
+    Spent,
     /// A growth was refused.
     #[error("out of memory")]
     NoMemory,
@@ -128,21 +153,79 @@ impl<T: Numbered + Drop, A: Allocator + Clone> Shelf<T, A> {
             Ok(value) => value,
             Err(refused) => return Err(ShelfFault::Made(refused)),
         };
-        let Ok(name) = self.name(key) else {
-            return Err(ShelfFault::NoMemory);
-        };
-        let Ok(value) = self.behind_lock(value) else {
-            return Err(ShelfFault::NoMemory);
-        };
         let Ok(key) = self.name(key) else {
             return Err(ShelfFault::NoMemory);
         };
-        let mut entries = self.entries.lock(rt);
-        if entries.reserve().is_err() || key_table.list(name).is_err() {
-            return Err(ShelfFault::NoMemory);
+        match self.list(rt, key_table, key, value) {
+            Ok(()) => Ok(no),
+            Err(AllocError) => Err(ShelfFault::NoMemory),
         }
-        entries.push(Entry { key, value });
-        Ok(no)
+    }
+
+    /// Puts what becomes a value under the next number, under a key, and answers the number. As `put`, but all that takes time
+    /// is done before, and what was made is not lost where the key has a number. The shelf keeps the key as it is.
+    ///
+    /// # Errors
+    ///
+    /// `Known` where the key has a number, with what was to be put; else `Spent` where no number is left; `NoMemory` only where
+    /// the allocator refuses. Then the next number stays what it was.
+    pub fn put_pending<R: Wait, P: Pending<T> + Drop>(
+        &self,
+        rt: &R,
+        key: Vec<u8, A>,
+        pending: P,
+    ) -> Result<u64, PendingFault<P>>
+        ensures put { IfOk result (λ no. (value : T) × P.becomes pending no value × (T.number_of value ≡ no)) }
+        ensures known { IfErr result (IfKnown (λ no back. back ≡ pending)) }
+    {
+        self.put_pending_at(rt, &mut self.key_table.lock(rt), key, pending)
+    }
+
+    /// Puts as `put_pending` does, with the keys locked.
+    fn put_pending_at<R: Wait, P: Pending<T> + Drop>(
+        &self,
+        rt: &R,
+        key_table: &mut KeyTable<A>,
+        key: Vec<u8, A>,
+        pending: P,
+    ) -> Result<u64, PendingFault<P>>
+        ensures put { IfOk result (λ no. (value : T) × P.becomes pending no value × (T.number_of value ≡ no)) }
+        ensures known { IfErr result (IfKnown (λ no back. (number_of key_table.old key.items ≡ Some no) × (back ≡ pending))) }
+        ensures number { IfOk result (λ no. no ≡ key_table.old.next) }
+        ensures ok { OnOk result (IsListed key.items key_table.old key_table.new) }
+        ensures err { OnErr result (IsSame key_table.old key_table.new) }
+    {
+        let no = match key_table.free(&key) {
+            Ok(no) => no,
+            Err(Taken::Known(no)) => return Err(PendingFault::Known(no, pending)),
+            Err(Taken::Spent) => return Err(PendingFault::Spent),
+        };
+        match self.list(rt, key_table, key, pending.numbered(no)) {
+            Ok(()) => Ok(no),
+            Err(AllocError) => Err(PendingFault::NoMemory),
+        }
+    }
+
+    /// Puts a value under the next number and a key that has none, with the keys locked.
+    fn list<R: Wait>(
+        &self,
+        rt: &R,
+        key_table: &mut KeyTable<A>,
+        key: Vec<u8, A>,
+        value: T,
+    ) -> Result<(), AllocError>
+        requires next { key_table.old.next + 1 < 2 ^ 64 }
+        requires new { number_of key_table.old key.items ≡ None }
+        ensures ok { OnOk result (IsListed key.items key_table.old key_table.new) }
+        ensures err { OnErr result (IsSame key_table.old key_table.new) }
+    {
+        let name = self.name(&key)?;
+        let value = self.behind_lock(value)?;
+        let mut entries = self.entries.lock(rt);
+        entries.reserve()?;
+        key_table.list(key)?;
+        entries.push(Entry { key: name, value });
+        Ok(())
     }
 
     /// A key in memory of the shelf's own.

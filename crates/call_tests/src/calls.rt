@@ -3,8 +3,9 @@ use crate::holds::holds;
 use crate::recipients::{
     CALLER, CANCELLING, FIRST, INVITE, INVITING, NO_VIA, OKAY, RINGING, SECOND, SETUP, message_of,
 };
-use crate::requests::{SOURCE, setup_of};
+use crate::requests::{SOURCE, opening_of, setup_of};
 use call_routing::is_openable;
+use call_table::Pending;
 use fork_call::{Call, Cause, Datagram, PendingCall, Setup, Step, TakeFault, Taken};
 use std::alloc::Global;
 use std::process::Abort;
@@ -33,7 +34,7 @@ fn prepared_by(alloc: Global, setup: &Setup<Global>) -> Option<PendingCall> {
     if !is_openable(&invite) {
         return None;
     }
-    match PendingCall::new(alloc, alloc, setup, invite, SOURCE, 0) {
+    match PendingCall::new(setup, opening_of(alloc, invite)) {
         Ok(prepared) => Some(prepared),
         Err(_) => None,
     }

@@ -1,6 +1,6 @@
 //! A setup, a request of one of its users, and the call that it opens.
 use call_model::Datagram;
-use call_routing::{is_openable, open};
+use call_routing::{Memory, OpeningRequest, is_openable, open};
 use call_state::CallState;
 use proxy_config::Setup;
 use proxy_routing::RequestRejection;
@@ -107,6 +107,16 @@ pub fn request_with(alloc: Global, changes: &[Change]) -> Option<Message<Global>
     message_of(alloc, &lines_with(changes))
 }
 
+/// A request that came from `SOURCE` at 0, all of whose memory is in this allocator.
+pub fn opening_of(alloc: Global, request: Message<Global>) -> OpeningRequest<Global> {
+    OpeningRequest {
+        memory: Memory { alloc, heap: alloc },
+        request,
+        source: SOURCE,
+        now: 0,
+    }
+}
+
 /// The parts of the call that a request opens as number 3, or the fault. None where it is no request that may open a call.
 pub fn opened(
     alloc: Global,
@@ -116,7 +126,13 @@ pub fn opened(
     if !is_openable(&request) {
         return None;
     }
-    Some(open(alloc, alloc, setup, 3, request, SOURCE, 0))
+    match open(setup, opening_of(alloc, request)) {
+        Ok(mut state) => {
+            state.set_number(3);
+            Some(Ok(state))
+        }
+        Err(why) => Some(Err(why.fault())),
+    }
 }
 
 /// The same for the request with these changes.

@@ -8,7 +8,7 @@ use call_table::Shelf;
 use daemon_parts::{DaemonFault, Options};
 use fork_call::{Call, Setup};
 use fork_daemon::{check_config, serve_text};
-use proxy_dispatch::{Handled, Memory, Received, Unlimited, handle};
+use proxy_dispatch::{Handled, Memory, Received, SharedCalls, Unlimited, handle};
 use proxy_service::append_block;
 use sip_uri::{Hop, Transport};
 use std::alloc::Global;
@@ -90,8 +90,9 @@ impl Scene {
             source: SOURCE,
             now: 0,
         };
-        let (calls, setup, outbox) = (&self.calls, &self.setup, &mut self.outbox);
-        handle(rt, memory, calls, setup, &Unlimited, received, outbox) == Ok(Handled::Opened(0))
+        let mut calls = SharedCalls::new(&self.calls);
+        let (setup, outbox) = (&self.setup, &mut self.outbox);
+        handle(rt, memory, &mut calls, setup, &Unlimited, received, outbox) == Ok(Handled::Opened(0))
     }
 
     /// The block of the call 0.

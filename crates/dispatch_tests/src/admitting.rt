@@ -6,7 +6,7 @@ use crate::texts::{
 };
 use call_table::Shelf;
 use fork_call::{Call, Setup};
-use proxy_dispatch::{Admission, Handled, Opener, Received, handle};
+use proxy_dispatch::{Admission, Handled, Opener, Received, SharedCalls, handle};
 use std::alloc::Global;
 use std::sync::Wait;
 use std::sync::atomic::{AtomicU64, Ordering};
@@ -214,8 +214,9 @@ impl Scene {
             now: 0,
         };
         let memory = memory_of(self.alloc);
+        let mut calls = SharedCalls::new(&self.shelf);
         let outbox = &mut self.outbox;
-        handle(rt, memory, &self.shelf, setup, &self.gate, received, outbox).ok()
+        handle(rt, memory, &mut calls, setup, &self.gate, received, outbox).ok()
     }
 
     /// Whether each datagram of the history becomes what it is to become.

@@ -5,7 +5,7 @@ use crate::texts::{SOURCE, memory_of, text_of};
 use call_table::Shelf;
 use fork_call::{Call, Port, Setup, carry};
 use fork_context::Event;
-use proxy_dispatch::{Handled, Received, Unlimited, handle};
+use proxy_dispatch::{Handled, Received, SharedCalls, Unlimited, handle};
 use std::alloc::Global;
 use std::process::Abort;
 use std::sync::Wait;
@@ -49,7 +49,7 @@ pub fn serves<R: Abort + Wait, P: Port>(
     let handled = handle(
         rt,
         memory_of(alloc),
-        shelf,
+        &mut SharedCalls::new(shelf),
         setup,
         &Unlimited,
         received,

@@ -2,7 +2,7 @@
 use crate::outbox::Outbox;
 use call_table::Shelf;
 use fork_call::{Call, Setup};
-use proxy_dispatch::{Handled, Memory, Received, Unlimited, handle};
+use proxy_dispatch::{Handled, Memory, Received, SharedCalls, Unlimited, handle};
 use sip_uri::{Hop, Transport};
 use std::alloc::Global;
 use std::sync::Wait;
@@ -142,7 +142,7 @@ pub fn text_becomes<R: Wait>(
     match handle(
         rt,
         memory_of(alloc),
-        shelf,
+        &mut SharedCalls::new(shelf),
         setup,
         &Unlimited,
         received,

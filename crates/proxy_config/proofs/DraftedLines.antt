@@ -22,7 +22,8 @@ use Rattle.proxy_config.specs.declared.draft.Phase.{Phase}
 use Rattle.proxy_config.specs.declared.draft.Phase.TheVariants.{AtOwn, AtInstance, AtDomain, AtPrefer, AtDepth, AtLocations}
 use Rattle.proxy_config.specs.Setup.{usual_longest}
 use Rattle.proxy_config.specs.Configuration.{Shown, line_if, location_line, AreRules, IsLocation, IsSetup, Begins}
-use Rattle.proxy_config.specs.inner.Reading.{IsSound, as_read, phase_after, uri_if, may_follow, added, with_location, with_line, in_phase}
+use Rattle.proxy_config.specs.inner.Reading.{IsSound, phase_after, in_phase}
+use Rattle.proxy_config.specs.Parts.{as_read, uri_if, may_follow, added, with_location, with_line}
 use Rattle.proxy_config.proofs.LineLaws.{line_found}
 use Rattle.proxy_config.proofs.SpelledLines.{UriLacks}
 
@@ -36,9 +37,9 @@ passes : (earlier : List Location) (location : Location) → MayFollow earlier l
 passes earlier location h = and_from _ _ (and_from _ _ h.hop (ap not h.apart)) (lt-ltb _ _ h.few)
 
 location_added : (earlier : List Location) (location : Location) → MayFollow earlier location → IsLocation location
-    → with_location earlier location.user location.q (spelling location.uri) ≡ Some (earlier ++ location ∷ [])
+    → with_location earlier location.user location.q (spelling location.uri) usual_longest ≡ Some (earlier ++ location ∷ [])
 location_added earlier location may h =
-    ap (λ (r : Result Uri UriFault). option_and_then (λ uri. added earlier (as_read location.user location.q uri)) (uri_if r)) (read_again location.uri h.uri)
+    ap (λ (r : Result Uri UriFault). option_and_then (λ uri. added earlier (as_read location.user location.q usual_longest uri)) (uri_if r)) (read_again location.uri h.uri)
     ∙ ap (λ (o : Option Hop). added earlier (record location { hop = o; longest = usual_longest })) (sym h.no_hop)
     ∙ ap (λ (n : ℕ). added earlier (record location { longest = n })) (sym h.longest)
     ∙ ap (λ t. cond t (Some (earlier ++ location ∷ [])) None) (passes earlier location may)
@@ -181,7 +182,7 @@ uri_found text uri e = go (read_uri text) refl e
     go (Ok other) is e = found text uri (is ∙ ap Ok (same_Some _ _ e))
     go (Err fault) is e = absurd cc
 
-may_is : (earlier : List Location) (location : Location) → location.q ≤ most_q → may_follow earlier location ≡ true → MayFollow earlier location
+pub may_is : (earlier : List Location) (location : Location) → location.q ≤ most_q → may_follow earlier location ≡ true → MayFollow earlier location
 may_is earlier location within h =
     let all = and_parts (is_by_datagram (next_hop location) && not (list_any (is_same location) earlier)) (nat_lt (length (locations_of location.user earlier)) most_targets) h in
     let two = and_parts (is_by_datagram (next_hop location)) (not (list_any (is_same location) earlier)) all.0 in
@@ -202,10 +203,10 @@ location_step : (s : Setup) (user : List ℕ) (q : ℕ) (uri : List ℕ) (next :
     → option_map (λ t. in_phase t AtLocations) (with_line s (LocationLine user q uri)) ≡ Some next → Stepped s user q uri next
 location_step s user q uri next h e =
     found_map (λ t. in_phase t AtLocations) (with_line s (LocationLine user q uri)) next (Stepped s user q uri)
-    (λ t at1. found_map (λ ls. record s { locations = ls }) (with_location s.locations user q uri) t (λ t. Stepped s user q uri (in_phase t AtLocations))
-    (λ ls at2. found_then (λ u. added s.locations (as_read user q u)) (uri_if (read_uri uri)) ls (Stepped s user q uri (in_phase (record s { locations = ls }) AtLocations))
+    (λ t at1. found_map (λ ls. record s { locations = ls }) (with_location s.locations user q uri usual_longest) t (λ t. Stepped s user q uri (in_phase t AtLocations))
+    (λ ls at2. found_then (λ u. added s.locations (as_read user q usual_longest u)) (uri_if (read_uri uri)) ls (Stepped s user q uri (in_phase (record s { locations = ls }) AtLocations))
     (λ u at3 is.
-    let location : Location = as_read user q u in
+    let location : Location = as_read user q usual_longest u in
     let g = cond_some (may_follow s.locations location) (s.locations ++ location ∷ []) ls is in
     let f = uri_found uri u at3 in
     record {

@@ -14,7 +14,7 @@ use Rattle.sip_uri.specs.declared.hop.Transport.TheVariants.{Udp}
 use Rattle.proxy_config.specs.Line.{no_host}
 use Rattle.proxy_config.specs.declared.line.Word.{Word}
 use Rattle.proxy_config.specs.declared.line.Word.TheVariants as word
-use Rattle.proxy_config.specs.inner.LineReading.{read_host, word_of, read_rest, read_cut}
+use Rattle.proxy_config.specs.LineReading.{read_host, word_of, read_rest, read_cut}
 
 abbrev word_text : Word → List ℕ
 word_text word.Own = codes "own"
@@ -56,7 +56,7 @@ pub record IsAddressOf (text addr : List ℕ) : Type 0 where
   pub four : length addr ≡ 4
   pub bytes : AllByRecursion (λ byte. byte ≤ 255) addr
 
-octets_found : (text addr : List ℕ) → read_octets text ≡ Some addr → IsAddressOf text addr
+pub octets_found : (text addr : List ℕ) → read_octets text ≡ Some addr → IsAddressOf text addr
 octets_found text addr e =
     found_then second (octet_before text) addr (IsAddressOf text addr)
     (λ p at1 is1. found_then (third p.0) (octet_before p.1) addr (IsAddressOf text addr)

@@ -25,7 +25,7 @@ octet_read n rest small =
     ap octet_cut (cut_again 46 (decimal n) (Some rest) (decimal_lacks 46 n refl (omega arith)))
     ∙ ap (option_map (λ m. (m, rest))) (number_read 255 n small (omega arith))
 
-octets_read : (addr : List ℕ) → length addr ≡ 4 → AllByRecursion (λ byte. byte ≤ 255) addr → read_octets (address_text addr) ≡ Some addr
+pub octets_read : (addr : List ℕ) → length addr ≡ 4 → AllByRecursion (λ byte. byte ≤ 255) addr → read_octets (address_text addr) ≡ Some addr
 octets_read [] four bytes = absurd (omega arith)
 octets_read (a ∷ []) four bytes = absurd (omega arith)
 octets_read (a ∷ b ∷ []) four bytes = absurd (omega arith)
@@ -38,7 +38,7 @@ octets_read (a ∷ b ∷ c ∷ d ∷ []) four bytes =
 octets_read (a ∷ b ∷ c ∷ d ∷ e ∷ addr) four bytes = absurd (omega arith)
 
 -- a byte that is no digit and no dot stands in no address
-address_lacks : (mark : ℕ) → Lacks mark (46 ∷ []) → (addr : List ℕ) → length addr ≡ 4 → AllByRecursion (λ byte. byte ≤ 255) addr → is_ascii_digit mark ≡ false → Lacks mark (address_text addr)
+pub address_lacks : (mark : ℕ) → Lacks mark (46 ∷ []) → (addr : List ℕ) → length addr ≡ 4 → AllByRecursion (λ byte. byte ≤ 255) addr → is_ascii_digit mark ≡ false → Lacks mark (address_text addr)
 address_lacks mark dot [] four bytes none = absurd (omega arith)
 address_lacks mark dot (a ∷ []) four bytes none = absurd (omega arith)
 address_lacks mark dot (a ∷ b ∷ []) four bytes none = absurd (omega arith)

@@ -14,7 +14,7 @@ use Rattle.std.proofs.lemmas.List.{length-map, map-append}
 use Rattle.std.proofs.lemmas.List.Elements.{filter-append}
 use Rattle.std.proofs.lemmas.Map.Text.{is_eq-slice_cmp}
 use Rattle.proxy_config.specs.Setup.{is_of_user, location_key}
-use Rattle.proxy_config.specs.inner.Reading.{may_follow}
+use Rattle.proxy_config.specs.Parts.{may_follow}
 use Rattle.proxy_config.specs.inner.UserPlaces.{places_if, places_among, places_of, AreAt, AreOf, IsAdded, IsSame, has_key, located}
 use Rattle.proxy_config.specs.declared.user_places.UserPlaces.{UserPlaces}
 

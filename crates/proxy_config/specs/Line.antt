@@ -1,10 +1,13 @@
 -- The lines of a configuration. Words are separated by one space, numbers are decimal without leading zeros.
-use Rattle.std.specs.Prelude.{◌≡◌, ◌≤◌, ℕ, ◌&&◌, nat_le, bytes_eq, Bool, false, List, [], ◌∷◌, ◌++◌, length, codes}
+use Rattle.std.specs.Prelude.{◌≡◌, ◌≤◌, ℕ, ◌&&◌, nat_le, bytes_eq, Bool, false, IsTrue, List, [], ◌∷◌, ◌++◌, length, codes}
 use Rattle.std.specs.List.{list_all, AllByRecursion}
 use Rattle.std.specs.Fmt.{decimal}
+use Rattle.fork_model.specs.Table.{most_targets}
+use Rattle.fork_rank.specs.Preferred.{IsPreferredList}
 pub use Rattle.fork_text.specs.Field.{is_visible}
-use Rattle.fork_text.specs.Field.{numbered_text}
+use Rattle.fork_text.specs.Field.{most_q, numbered_text}
 use Rattle.fork_text.specs.RuleLines.{prefer_text, depth_text}
+use Rattle.sip_uri.specs.Host.{is_host}
 use Rattle.sip_uri.specs.declared.hop.Transport.TheVariants.{Udp}
 use Rattle.sip_via.specs.Address.{address_text}
 use Rattle.sip_via.specs.declared.own.Own.{Own}
@@ -53,3 +56,12 @@ pub record IsOwn (own : Own) : Type 0 where
 -- bytes that show, at least one
 abbrev pub is_user : List ℕ → Bool
 is_user user = nat_le 1 (length user) && list_all is_visible user
+
+-- what the parts of a line have to be
+abbrev pub IsLine : Line → Type 0
+IsLine (OwnLine own) = IsOwn own
+IsLine (InstanceLine instance) = instance ≤ most_instance
+IsLine (DomainLine host) = IsTrue (is_host host)
+IsLine (PreferLine statuses) = IsPreferredList statuses
+IsLine (DepthLine depth) = depth ≤ most_targets
+IsLine (LocationLine user q uri) = IsTrue (is_user user) × (q ≤ most_q)

@@ -1,5 +1,2 @@
-pub mod Line
-pub mod LineReading
-pub mod LineView
 pub mod Reading
 pub mod UserPlaces

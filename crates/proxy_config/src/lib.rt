@@ -11,12 +11,15 @@ mod law;
 mod line;
 mod listed;
 mod location;
+mod parts;
 mod setup;
 mod user_locations;
 mod user_places;
 
 pub use fault::SetupFault;
 pub use law::locations_are_targets;
+pub use line::{Line, read_line, read_octets};
 pub use location::Location;
+pub use parts::{SetupParts, uri_if};
 pub use setup::Setup;
 pub use user_locations::UserLocations;

@@ -5,8 +5,8 @@ ghost use Rattle.std.specs.List.{list_all};
 ghost use Rattle.sip_lex.specs.Number.{plain_number_within};
 ghost use Rattle.fork_text.specs.Field.{number_from, seen_before};
 ghost use Rattle.proxy_config.specs.Line.{is_user, is_visible, most_instance, most_port};
-ghost use Rattle.proxy_config.specs.inner.LineReading.{octet_before, read_octets, read_own, read_location, read_rest, read_line, word_of};
-ghost use Rattle.proxy_config.specs.inner.LineView.{line_of};
+ghost use Rattle.proxy_config.specs.LineReading.{octet_before, read_octets, read_own, read_location, read_rest, read_line, word_of};
+ghost use Rattle.proxy_config.specs.LineView.{line_of};
 
 use fork_rank::Preferred;
 use fork_text::{Depth, read_depth, read_number, read_number_before, read_preferred};
@@ -79,8 +79,8 @@ fn octet_before(text: &[u8]) -> Option<(u8, &[u8])>
     }
 }
 
-/// An IPv4 address in dotted form.
-fn read_octets(text: &[u8]) -> Option<[u8; 4]>
+/// An IPv4 address in dotted form: four numbers of at most 255, without leading zeros.
+pub fn read_octets(text: &[u8]) -> Option<[u8; 4]>
     ensures { result ≡ read_octets text.now }
 {
     let (a, rest) = octet_before(text)?;

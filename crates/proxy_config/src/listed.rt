@@ -3,7 +3,7 @@ ghost use Rattle.std.specs.Prelude.{◌≡◌, ◌&&◌, [], map, not, nat_lt, I
 ghost use Rattle.std.specs.List.{list_any};
 ghost use Rattle.fork_model.specs.Table.{most_targets};
 ghost use Rattle.proxy_config.specs.Setup.{is_by_datagram, locations_of, with_longest};
-ghost use Rattle.proxy_config.specs.inner.Reading.{added, may_follow};
+ghost use Rattle.proxy_config.specs.Parts.{added, may_follow};
 ghost use Rattle.proxy_config.specs.inner.UserPlaces.{has_key};
 
 use crate::location::Location;

@@ -1,7 +1,7 @@
 //! Where a user may be reached.
 ghost use Rattle.std.specs.Prelude.{◌≡◌, ◌≤◌};
 ghost use Rattle.fork_text.specs.Field.{most_q};
-ghost use Rattle.proxy_config.specs.Setup.{is_of_user, next_hop, usual_longest, with_longest};
+ghost use Rattle.proxy_config.specs.Setup.{is_of_user, next_hop, with_longest};
 
 use sip_uri::{Hop, SipUri};
 use std::alloc::{Allocator, Global};
@@ -34,17 +34,17 @@ impl<A: Allocator> Model for Location<A> {
 }
 
 impl<A: Allocator> Location<A> {
-    /// Where this user may be reached, at a q of at most one: by the hop of the URI, for the usual longest time.
-    pub(crate) fn new(user: Vec<u8, A>, q: u16, uri: SipUri<A>) -> Self
+    /// Where this user may be reached, at a q of at most one: by the hop of the URI, for so many milliseconds at most.
+    pub(crate) fn new(user: Vec<u8, A>, q: u16, uri: SipUri<A>, longest: u64) -> Self
         requires { q ≤ most_q }
-        ensures { result ≡ record { user = user.items; q = q; uri = uri; hop = None; longest = usual_longest } }
+        ensures { result ≡ record { user = user.items; q = q; uri = uri; hop = None; longest = longest } }
     {
         Location {
             user,
             q,
             uri,
             hop: None,
-            longest: USUAL_LONGEST,
+            longest,
         }
     }
 

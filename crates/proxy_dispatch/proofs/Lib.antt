@@ -1,6 +1,8 @@
 pub mod Common
-pub mod Keyless
+pub mod Outcomes
+pub mod Looking
+pub mod Taking
+pub mod Homes
 pub mod Purposes
+pub mod Rejecting
 pub mod Becoming
-pub mod Admitted
-pub mod Unmade

@@ -6,19 +6,16 @@ ghost use Rattle.sip_route.specs.Hops.{IsHops, hops_name};
 ghost use Rattle.sip_build.specs.Forwarding.{is_request};
 ghost use Rattle.proxy_routing.specs.Admission.{target_uri};
 ghost use Rattle.call_model.specs.SeenDatagram.{seen};
-ghost use Rattle.proxy_dispatch.specs.declared.purpose.Purpose.TheVariants as purposes;
-ghost use Rattle.proxy_dispatch.specs.Becomes.{MessageBecomes};
+ghost use Rattle.proxy_dispatch.specs.Becomes.{AckBecomes};
 ghost use Rattle.proxy_dispatch.specs.Passing.{GoesOn, HasOwnTag, Passes};
-ghost use Rattle.proxy_dispatch.specs.Purpose.{purpose_of};
 ghost use Rattle.proxy_dispatch.specs.Sent.{passed_on, passed_text, passing_branch};
 ghost use Rattle.proxy_dispatch.specs.inner.Sent.{seen_sent};
 
 use crate::datagrams::Handled;
 use crate::outcome::Outcome;
-use crate::received::Received;
 use call_routing::admitted_target;
 use fork_call::{Cause, Datagram, Setup};
-use proxy_routing::{hop_by, is_domain, validate_request};
+use proxy_routing::{Unrouted, hop_by, is_domain, validate_request};
 use sip_build::{own_tag, write_forwarded};
 use sip_route::{first_route, loop_key};
 use sip_text::Message;
@@ -125,29 +122,26 @@ fn passing<A: Allocator + Clone>(
 {
     match validate_request(alloc.clone()?, setup, ack, source) {
         Ok(request) => going_on(alloc, setup, &request),
-        Err(fault) => match fault.status() {
-            Some(_) => Ok(None),
-            None => Err(AllocError),
-        },
+        Err(Unrouted::Rejected(_, _)) => Ok(None),
+        Err(Unrouted::NoMemory) => Err(AllocError),
     }
 }
 
-/// What becomes of an ACK that is for no call: it is absorbed where it acknowledges an answer of the proxy's own, and
+/// What becomes of an ACK from `source` that is for no call: it is absorbed where it acknowledges an answer of the proxy's own, and
 /// goes on where it can (RFC 3261 sections 16.11 and 17.2.1).
 pub(crate) fn acknowledged<A: Allocator + Clone>(
     alloc: A,
     setup: &Setup<A>,
     ack: Message<A>,
-    received: Received<'_>,
+    source: Hop,
 ) -> Result<Outcome<A>, AllocError>
-    requires { purpose_of ack.start ≡ Some purposes.Ack }
-    ensures { IfOk result (λ outcome.
-        MessageBecomes setup.now ack received.entry.source received.entry.now outcome.handled (seen_sent outcome.datagram)) }
+    requires { is_request ack.start ≡ true }
+    ensures { IfOk result (λ outcome. AckBecomes setup.now ack source outcome.handled (seen_sent outcome.datagram)) }
 {
     if has_own_tag(&ack) {
         return Ok(Outcome::silent(Handled::Absorbed));
     }
-    match passing(alloc, setup, ack, received.source)? {
+    match passing(alloc, setup, ack, source)? {
         None => Ok(Outcome::silent(Handled::Dropped)),
         Some(datagram) => Ok(Outcome::sends(Handled::Forwarded, datagram)),
     }

@@ -1,21 +1,27 @@
 //! Requests that the proxy answers without a call.
-ghost use Rattle.std.specs.Prelude.{◌≡◌, [], IfOk, Some, true};
+ghost use Rattle.std.specs.Prelude.{◌≡◌, ◌≢◌, [], IfOk, Some, true};
 ghost use Rattle.std.specs.List.{list_all};
-ghost use Rattle.std.specs.Option.{option_map};
 ghost use Rattle.sip_text.specs.Message.{is_header};
-ghost use Rattle.sip_text.specs.Text.{spelling};
+ghost use Rattle.sip_text.specs.Text.{MessageText, spelling};
+ghost use Rattle.sip_via.specs.Received.{reply_of};
+ghost use Rattle.sip_via.specs.TopVia.{top_value};
+ghost use Rattle.sip_via.specs.ViaParts.{via_of};
 ghost use Rattle.sip_build.specs.Further.{view_lines};
 ghost use Rattle.sip_build.specs.Generated.{code_of, generated_of};
 ghost use Rattle.call_model.specs.SeenDatagram.{seen};
+ghost use Rattle.proxy_config.specs.Setup.{Setup};
 ghost use Rattle.proxy_routing.specs.Refusing.{status_of_fault};
+ghost use Rattle.call_routing.specs.Opening.{IsRefusedFor};
 ghost use Rattle.proxy_dispatch.specs.declared.datagrams.Handled.TheVariants as handled;
+ghost use Rattle.proxy_dispatch.specs.Becomes.{IsRejected};
 ghost use Rattle.proxy_dispatch.specs.Sent.{answer_of, answer_to, capabilities_to, unavailable_to};
 ghost use Rattle.proxy_dispatch.specs.inner.Sent.{seen_sent};
 
 use crate::datagrams::Handled;
 use crate::outcome::Outcome;
 use fork_call::{Cause, Datagram, RequestRejection};
-use sip_build::{FurtherLine, OwnStatus, write_generated};
+use sip_build::{FurtherLine, OwnStatus, stripping_keeps_answers, write_generated};
+use sip_route::stripping_keeps_the_rest;
 use sip_text::Message;
 use sip_uri::Hop;
 use sip_via::{ViaFault, add_received, reply_hop_of};
@@ -145,18 +151,57 @@ pub(crate) fn turned_away<A: Allocator + Clone>(
     Ok(Outcome::sends(Handled::TurnedAway, datagram))
 }
 
-/// The status that tells why no call was opened (RFC 3261 section 16.3); None for want of memory.
-pub(crate) fn status_of(fault: RequestRejection) -> Option<OwnStatus>
-    ensures { option_map code_of result ≡ status_of_fault fault }
+/// The status that tells why no call was opened (RFC 3261 section 16.3).
+fn status_of(fault: RequestRejection) -> OwnStatus
+    requires { fault ≢ RequestRejection.NoMemory }
+    ensures { status_of_fault fault ≡ Some (code_of result) }
 {
     match fault {
-        RequestRejection::BadRequest => Some(OwnStatus::BadRequest),
-        RequestRejection::Scheme => Some(OwnStatus::UnsupportedUriScheme),
-        RequestRejection::Hops => Some(OwnStatus::TooManyHops),
-        RequestRejection::Loop => Some(OwnStatus::LoopDetected),
-        RequestRejection::Extension => Some(OwnStatus::BadExtension),
-        RequestRejection::NoTarget => Some(OwnStatus::TemporarilyUnavailable),
-        RequestRejection::NoHop => Some(OwnStatus::ServerInternalError),
-        RequestRejection::NoMemory => None,
+        RequestRejection::BadRequest => OwnStatus::BadRequest,
+        RequestRejection::Scheme => OwnStatus::UnsupportedUriScheme,
+        RequestRejection::Hops => OwnStatus::TooManyHops,
+        RequestRejection::Loop => OwnStatus::LoopDetected,
+        RequestRejection::Extension => OwnStatus::BadExtension,
+        RequestRejection::NoTarget => OwnStatus::TemporarilyUnavailable,
+        RequestRejection::NoHop => OwnStatus::ServerInternalError,
+        RequestRejection::NoMemory => unreachable!(),
     }
+}
+
+/// An answer of the proxy's own to a request that has its source, or, where it is not well formed, is yet to get it.
+fn rejection_of<A: Allocator + Clone>(
+    alloc: A,
+    request: Message<A>,
+    source: Hop,
+    fault: RequestRejection,
+    status: OwnStatus,
+) -> Result<Datagram<A>, AllocError>
+    ensures plain { fault ≡ RequestRejection.BadRequest → IfOk result (λ datagram. seen datagram ≡ answer_of request source status []) }
+    ensures marked { fault ≢ RequestRejection.BadRequest
+        → IfOk result (λ datagram. seen datagram ≡ answer_to request status [] (reply_of (via_of (top_value request)) source)) }
+{
+    if fault == RequestRejection::BadRequest {
+        return answer_of(alloc, request, source, status, &[]);
+    }
+    let to = reply_hop_of(&request, source);
+    answer_to(alloc, &request, status, &[], to)
+}
+
+/// What becomes of a request from `source` that opens no call for this cause, and was given back as far as it was prepared: it is
+/// answered with the status that tells the cause (RFC 3261 section 16.3).
+pub(crate) fn rejected<A: Allocator + Clone>(
+    alloc: A,
+    request: Message<A>,
+    source: Hop,
+    fault: RequestRejection,
+) -> Result<Outcome<A>, AllocError>
+    requires { fault ≢ RequestRejection.NoMemory }
+    ensures { (setup : Setup) (m : MessageText) → IsRefusedFor setup m source fault request
+        → IfOk result (λ outcome. IsRejected setup m source [] outcome.handled (seen_sent outcome.datagram)) }
+{
+    stripping_keeps_answers();
+    stripping_keeps_the_rest();
+    let status = status_of(fault);
+    let datagram = rejection_of(alloc, request, source, fault, status)?;
+    Ok(Outcome::sends(Handled::Answered(status.code()), datagram))
 }

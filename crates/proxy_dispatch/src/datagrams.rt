@@ -1,24 +1,23 @@
 //! Datagrams that a proxy receives.
-ghost use Rattle.std.specs.Prelude.{◌≡◌, IfOk, Ok, OnErr, Option};
-ghost use Rattle.sip_text.specs.Message.{read_at};
+ghost use Rattle.std.specs.Prelude.{◌≡◌, IfOk, List, OnErr, Option};
 ghost use Rattle.call_model.specs.Built as built;
 ghost use Rattle.sip_text.specs.Fault.{fault_seen};
 ghost use Rattle.sip_text.specs.Reading.{Short};
-ghost use Rattle.proxy_dispatch.specs.Becomes.{AdmittedBecomes, Becomes, FaultBecomes};
+ghost use Rattle.proxy_dispatch.specs.Becomes.{Becomes, FaultBecomes, MessageBecomes};
+ghost use Rattle.proxy_dispatch.specs.Looks.{Look, ShowsAll};
 ghost use Rattle.proxy_dispatch.specs.inner.Becomes.{ToldBecomes};
 ghost use Rattle.proxy_dispatch.specs.Sent.{IsHanded};
 ghost use Rattle.proxy_dispatch.specs.inner.Sent.{seen_sent};
 
 use crate::admission::Admission;
 use crate::answers::answered;
-use crate::memory::Memory;
+use crate::calls::CallTable;
 use crate::outcome::Outcome;
 use crate::purpose::{is_answered, purpose_of};
-use crate::received::Received;
+use crate::received::{Received, ReceivedMessage};
 use crate::requests::requested;
 use crate::responses::responded;
-use call_table::Shelf;
-use fork_call::{Call, Datagram, Port, Setup};
+use fork_call::{Datagram, Memory, Port, Setup};
 use sip_build::OwnStatus;
 use sip_text::{Message, ReadFault, faults_are_of_the_text};
 use sip_uri::Hop;
@@ -45,24 +44,27 @@ pub enum Handled {
 }
 
 /// What becomes of a message.
-fn of_message<A: Allocator + Clone, N: Admission, R: Wait>(
+fn of_message<A: Allocator + Clone, T: CallTable<A>, N: Admission, R: Wait>(
     rt: &R,
-    memory: Memory<A>,
-    shelf: &Shelf<Call<A>, A>,
+    table: &mut T,
     setup: &Setup<A>,
     admission: &N,
-    message: Message<A>,
-    received: Received<'_>,
+    received: ReceivedMessage<A>,
 ) -> Result<Outcome<A>, AllocError>
-    requires { read_at received.bytes.now ≡ Ok message }
-    ensures { IfOk result (λ outcome.
-        AdmittedBecomes (N.admitted admission.now) setup.now message received.entry.source received.entry.now outcome.handled (seen_sent outcome.datagram)) }
+    ensures { IfOk result (λ outcome. (looks : List Look) × ShowsAll T.shows table.old looks table.new
+        × MessageBecomes (N.admitted admission.now) setup.now received.message received.source received.now
+            looks outcome.handled (seen_sent outcome.datagram)) }
 {
-    match purpose_of(&message) {
-        None => responded(rt, shelf, setup, message, received),
-        Some(purpose) => requested(
-            rt, memory, shelf, setup, admission, message, purpose, received,
+    match purpose_of(&received.message) {
+        None => responded(
+            rt,
+            table,
+            setup,
+            received.message,
+            received.source,
+            received.now,
         ),
+        Some(purpose) => requested(rt, table, setup, admission, received, purpose),
     }
 }
 
@@ -102,25 +104,6 @@ fn of_fault<A: Allocator + Clone>(
     }
 }
 
-/// What becomes of a datagram.
-fn outcome_of<A: Allocator + Clone, N: Admission, R: Wait>(
-    rt: &R,
-    memory: Memory<A>,
-    shelf: &Shelf<Call<A>, A>,
-    setup: &Setup<A>,
-    admission: &N,
-    received: Received<'_>,
-) -> Result<Outcome<A>, AllocError>
-    ensures { IfOk result (λ outcome.
-        Becomes (N.admitted admission.now) setup.now received.entry.bytes.now received.entry.source received.entry.now outcome.handled (seen_sent outcome.datagram)) }
-{
-    faults_are_of_the_text();
-    match Message::read(memory.alloc.clone()?, received.bytes) {
-        Ok(message) => of_message(rt, memory, shelf, setup, admission, message, received),
-        Err(fault) => of_fault(memory.alloc, fault, received.source),
-    }
-}
-
 /// Hands the datagram to the port, if there is one to send.
 fn hand<A: Allocator, P: Port>(port: &mut P, sent: &Option<Datagram<A>>)
     ensures { IsHanded P.sends port.old (seen_sent sent.now) port.new }
@@ -130,10 +113,13 @@ fn hand<A: Allocator, P: Port>(port: &mut P, sent: &Option<Datagram<A>>)
     }
 }
 
-/// Handles a datagram that was received (RFC 3261 sections 16.2, 16.7, 16.11, 17.1.3, 17.2.3 and 18): the call that it belongs
-/// to takes it, or it opens one, or it is answered, sent on or dropped without one. An answer or an ACK that cannot be sent is
-/// lost, as on the way. Nothing else is handed to the port: what a call then has to send is for `carry`. A call that is opened
-/// has its memory from `memory`.
+/// Handles a message that was received (RFC 3261 sections 16.2, 16.7, 16.11, 17.1.3, 17.2.3 and 18): the call that it belongs to
+/// takes it, or it opens one, or it is answered, sent on or dropped without one. An answer or an ACK that cannot be sent is lost, as
+/// on the way. Nothing else is handed to the port: what a call then has to send is for `carry`. A call that is opened has its memory
+/// from `received.memory`.
+///
+/// A response is given to the call that its top Via value names, a request to the call that has its key. A CANCEL is answered 481,
+/// and a request opens a call, only where the look at its key found none.
 ///
 /// `admission` is asked where a request would open a call, as no call has its key, and for nothing else. A request that it does
 /// not admit is answered 503 with Retry-After (section 21.5.4). One that it admits is answered 200 where the setup is that of a
@@ -143,22 +129,70 @@ fn hand<A: Allocator, P: Port>(port: &mut P, sent: &Option<Datagram<A>>)
 /// # Errors
 ///
 /// Only where the allocator refuses; no call has changed then, none was opened, and nothing was sent.
-pub fn handle<A: Allocator + Clone, N: Admission, P: Port, R: Wait>(
+pub fn handle_message<A: Allocator + Clone, T: CallTable<A>, N: Admission, P: Port, R: Wait>(
+    rt: &R,
+    table: &mut T,
+    setup: &Setup<A>,
+    admission: &N,
+    received: ReceivedMessage<A>,
+    port: &mut P,
+) -> Result<Handled, AllocError>
+    ensures became { IfOk result (λ handled.
+        (looks : List Look)
+        × (sent : Option built.Datagram)
+        × ShowsAll T.shows table.old looks table.new
+        × MessageBecomes (N.admitted admission.now) setup.now received.message received.source received.now looks handled sent
+        × IsHanded P.sends port.old sent port.new) }
+    ensures err { OnErr result (port.new ≡ port.old) }
+{
+    let outcome = of_message(rt, table, setup, admission, received)?;
+    hand(port, &outcome.datagram);
+    Ok(outcome.handled)
+}
+
+/// Handles a datagram that was received: it is read, once, and handled as `handle_message` says. Of a datagram that is no message, a
+/// request whose body is cut short is answered 400 (RFC 3261 section 18.3), and all else is dropped.
+///
+/// # Errors
+///
+/// Only where the allocator refuses; no call has changed then, none was opened, and nothing was sent.
+pub fn handle<A: Allocator + Clone, T: CallTable<A>, N: Admission, P: Port, R: Wait>(
     rt: &R,
     memory: Memory<A>,
-    shelf: &Shelf<Call<A>, A>,
+    table: &mut T,
     setup: &Setup<A>,
     admission: &N,
     received: Received<'_>,
     port: &mut P,
 ) -> Result<Handled, AllocError>
     ensures became { IfOk result (λ handled.
-        (sent : Option built.Datagram)
-        × Becomes (N.admitted admission.now) setup.now received.entry.bytes.now received.entry.source received.entry.now handled sent
+        (looks : List Look)
+        × (sent : Option built.Datagram)
+        × ShowsAll T.shows table.old looks table.new
+        × Becomes (N.admitted admission.now) setup.now received.entry.bytes.now received.entry.source received.entry.now looks handled sent
         × IsHanded P.sends port.old sent port.new) }
     ensures err { OnErr result (port.new ≡ port.old) }
 {
-    let outcome = outcome_of(rt, memory, shelf, setup, admission, received)?;
-    hand(port, &outcome.datagram);
-    Ok(outcome.handled)
+    faults_are_of_the_text();
+    let Received { bytes, source, now } = received;
+    match Message::read(memory.alloc.clone()?, bytes) {
+        Ok(message) => handle_message(
+            rt,
+            table,
+            setup,
+            admission,
+            ReceivedMessage {
+                memory,
+                message,
+                source,
+                now,
+            },
+            port,
+        ),
+        Err(fault) => {
+            let outcome = of_fault(memory.alloc, fault, source)?;
+            hand(port, &outcome.datagram);
+            Ok(outcome.handled)
+        }
+    }
 }

@@ -1,11 +1,25 @@
-//! Datagrams as they were received.
+//! Datagrams and messages as they were received.
+use fork_call::Memory;
+use sip_text::Message;
 use sip_uri::Hop;
+use std::alloc::Allocator;
 
 /// A datagram as it was received.
 #[derive(Clone, Copy)]
 pub struct Received<'a> {
     /// The bytes of the datagram.
     pub bytes: &'a [u8],
+    /// The address and the port that it came from.
+    pub source: Hop,
+    /// When it came, in milliseconds.
+    pub now: u64,
+}
+
+/// A message as it was received, with the memory for what it opens.
+#[derive(Drop)]
+pub struct ReceivedMessage<A: Allocator> {
+    pub memory: Memory<A>,
+    pub message: Message<A>,
     /// The address and the port that it came from.
     pub source: Hop,
     /// When it came, in milliseconds.

@@ -1,52 +1,58 @@
 //! Responses: for the call that their top Via value names.
-ghost use Rattle.std.specs.Prelude.{◌≡◌, ℕ, IfOk, IfSome, None, Some};
-ghost use Rattle.proxy_dispatch.specs.Becomes.{IsHome, MessageBecomes};
-ghost use Rattle.proxy_dispatch.specs.Purpose.{purpose_of};
+ghost use Rattle.std.specs.Prelude.{◌≡◌, ℕ, List, IfNone, IfOk, IfSome, true};
+ghost use Rattle.sip_via.specs.TopVia.{top_value};
+ghost use Rattle.call_routing.specs.Kinds.{is_response};
+ghost use Rattle.call_routing.specs.Matching.{IsReadBranch};
+ghost use Rattle.proxy_dispatch.specs.Becomes.{IsHome, ResponseBecomes};
+ghost use Rattle.proxy_dispatch.specs.Looks.{Look, ShowsAll};
 ghost use Rattle.proxy_dispatch.specs.inner.Sent.{seen_sent};
 
+use crate::calls::CallTable;
 use crate::datagrams::Handled;
-use crate::delivery::deliver;
+use crate::delivery::{ReadBranch, deliver_response};
 use crate::outcome::Outcome;
-use crate::received::Received;
-use call_table::Shelf;
-use fork_call::{Call, Setup};
+use fork_call::Setup;
 use sip_text::Message;
+use sip_uri::Hop;
 use sip_via::own_branch;
 use std::alloc::{AllocError, Allocator};
 use std::sync::Wait;
 
-/// The number of the call that a response is for: its top Via value is one that this run of the proxy put (RFC 3261 section
+/// The branch that names the call that a response is for: its top Via value is one that this run of the proxy put (RFC 3261 section
 /// 16.7 step 1).
-fn call_of<A: Allocator>(setup: &Setup<A>, response: &Message<A>) -> Option<u64>
-    ensures home { IfSome result (λ no. IsHome setup.now no response.now) }
-    ensures only { (no : ℕ) → IsHome setup.now no response.now → result ≡ Some no }
+fn branch_of<A: Allocator>(setup: &Setup<A>, response: &Message<A>) -> Option<ReadBranch>
+    ensures home { IfSome result (λ read. IsHome setup.now read.name.context response.now) }
+    ensures read { IfSome result (λ read. IsReadBranch read.own (top_value response.now) read.name) }
+    ensures none { IfNone result ((number : ℕ) → IsHome setup.now number response.now → ⊥) }
 {
-    let branch = own_branch(response, setup.own())?;
-    if branch.instance == setup.instance() {
-        Some(branch.context)
+    let own = setup.own();
+    let name = own_branch(response, own)?;
+    if name.instance == setup.instance() {
+        Some(ReadBranch { own, name })
     } else {
         None
     }
 }
 
-/// What becomes of a response: the call that it is for takes it, or it is dropped (RFC 3261 section 18.1.2).
+/// What becomes of a response: it is given to the call that it is for, or dropped (RFC 3261 section 18.1.2).
 ///
 /// # Errors
 ///
 /// Only where the allocator refuses; the call is then as it was.
-pub(crate) fn responded<A: Allocator + Clone, R: Wait>(
+pub(crate) fn responded<A: Allocator + Clone, T: CallTable<A>, R: Wait>(
     rt: &R,
-    shelf: &Shelf<Call<A>, A>,
+    table: &mut T,
     setup: &Setup<A>,
     response: Message<A>,
-    received: Received<'_>,
+    source: Hop,
+    now: u64,
 ) -> Result<Outcome<A>, AllocError>
-    requires { purpose_of response.start ≡ None }
-    ensures { IfOk result (λ outcome.
-        MessageBecomes setup.now response received.entry.source received.entry.now outcome.handled (seen_sent outcome.datagram)) }
+    requires { is_response response.start ≡ true }
+    ensures { IfOk result (λ outcome. (looks : List Look) × ShowsAll T.shows table.old looks table.new
+        × ResponseBecomes setup.now response source now looks outcome.handled (seen_sent outcome.datagram)) }
 {
-    match call_of(setup, &response) {
-        Some(no) => deliver(rt, shelf, no, response, received),
+    match branch_of(setup, &response) {
+        Some(read) => deliver_response(rt, table, response, read, source, now),
         None => Ok(Outcome::silent(Handled::Dropped)),
     }
 }

@@ -1,3 +1,4 @@
 pub mod Common
 pub mod Admitting
 pub mod laws
+pub mod Refused

@@ -3,3 +3,4 @@ pub mod Admission
 pub mod OwnRoutes
 pub mod Refusing
 pub mod Targets
+pub mod Unrouted

@@ -25,8 +25,8 @@ abbrev pub IsUnroutable : MessageText → RequestRejection → Type 0
 IsUnroutable m BadRequest = is_well_formed m ≡ false
 IsUnroutable m Scheme = (is_well_formed m ≡ true) × (target_uri m ≡ Err uris.NotSip)
 IsUnroutable m Hops = (is_well_formed m ≡ true) × (target_uri m ≢ Err uris.NotSip) × (is_at_its_end m ≡ true)
--- want of memory says nothing of the request
-IsUnroutable m NoMemory = Unit {0}
+-- want of memory is told apart
+IsUnroutable m NoMemory = ⊥
 -- the others come behind these steps
 IsUnroutable m Loop = ⊥
 IsUnroutable m Extension = ⊥
@@ -40,7 +40,7 @@ IsTurnedAway setup m source Scheme = IsUnroutable m Scheme
 IsTurnedAway setup m source Hops = IsUnroutable m Hops
 IsTurnedAway setup m source Loop =
     IsRoutable m × (request : MessageText) × IsPrepared setup m source request × IsLoop request setup.own
-IsTurnedAway setup m source NoMemory = Unit {0}
+IsTurnedAway setup m source NoMemory = ⊥
 IsTurnedAway setup m source Extension = ⊥
 IsTurnedAway setup m source NoTarget = ⊥
 IsTurnedAway setup m source NoHop = ⊥

@@ -4,13 +4,15 @@ ghost use Rattle.sip_text.specs.Name.{first_value};
 ghost use Rattle.sip_route.specs.Hops.{IsHops, hops_name};
 ghost use Rattle.sip_via.specs.Received.{marked};
 ghost use Rattle.proxy_routing.specs.Admission.{IsAdmitted, IsPrepared, IsRoutable, is_well_formed};
-ghost use Rattle.proxy_routing.specs.Refusing.{IsTurnedAway, IsUnroutable};
+ghost use Rattle.proxy_routing.specs.Unrouted.{IfRejected, IsTurnedBack};
 ghost use Rattle.proxy_routing.specs.inner.Admission.{is_formed};
+ghost use Rattle.proxy_routing.specs.inner.Unrouted.{IsUnroutableAs};
 
 use crate::checks::{is_formed, is_of_another_scheme, is_spent};
 use crate::fault::RequestRejection;
 use crate::law::taking_own_routes_keeps_the_rest;
 use crate::own_routes::without_own_routes;
+use crate::unrouted::Unrouted;
 use proxy_config::Setup;
 use sip_route::{hops_of, is_loop, request_uri};
 use sip_text::Message;
@@ -23,18 +25,21 @@ fn with_source<A: Allocator + Clone>(
     alloc: A,
     message: Message<A>,
     source: Hop,
-) -> Result<Message<A>, RequestRejection>
+) -> Result<Message<A>, Unrouted<A>>
     requires formed { is_formed message ≡ true }
     ensures marked { IfOk result (λ with_source. marked message source ≡ Ok with_source) }
     ensures formed { IfOk result (λ _. is_well_formed message ≡ true) }
-    ensures refused { IfErr result (IsUnroutable message) }
+    ensures refused { IfErr result (IfRejected (IsUnroutableAs message source)) }
 {
     readable_is_marked();
     match add_received(alloc, message, source) {
         Ok(with_source) => Ok(with_source),
         Err(unmarked) => match unmarked.fault {
-            ViaFault::BadVia => Err(RequestRejection::BadRequest),
-            ViaFault::NoMemory => Err(RequestRejection::NoMemory),
+            ViaFault::BadVia => Err(Unrouted::Rejected(
+                RequestRejection::BadRequest,
+                unmarked.message,
+            )),
+            ViaFault::NoMemory => Err(Unrouted::NoMemory),
         },
     }
 }
@@ -44,23 +49,23 @@ fn routable<A: Allocator + Clone>(
     alloc: A,
     message: Message<A>,
     source: Hop,
-) -> Result<Message<A>, RequestRejection>
+) -> Result<Message<A>, Unrouted<A>>
     ensures marked { IfOk result (λ with_source. marked message source ≡ Ok with_source) }
     ensures well { IfOk result (λ _. IsRoutable message) }
     ensures hops { IfOk result (λ _. IfSome (first_value hops_name message.headers) IsHops) }
-    ensures refused { IfErr result (IsUnroutable message) }
+    ensures refused { IfErr result (IfRejected (IsUnroutableAs message source)) }
 {
     let hops = hops_of(&message);
     let fault = uri_fault(request_uri(&message));
     if !is_formed(&message, hops, fault) {
-        return Err(RequestRejection::BadRequest);
+        return Err(Unrouted::Rejected(RequestRejection::BadRequest, message));
     }
     let marked = with_source(alloc, message, source)?;
     if is_of_another_scheme(fault) {
-        return Err(RequestRejection::Scheme);
+        return Err(Unrouted::Rejected(RequestRejection::Scheme, marked));
     }
     if is_spent(hops) {
-        return Err(RequestRejection::Hops);
+        return Err(Unrouted::Rejected(RequestRejection::Hops, marked));
     }
     Ok(marked)
 }
@@ -71,12 +76,12 @@ fn prepared<A: Allocator + Clone>(
     setup: &Setup<A>,
     message: Message<A>,
     source: Hop,
-) -> Result<Message<A>, RequestRejection>
+) -> Result<Message<A>, Unrouted<A>>
     ensures routable { IfOk result (λ _. IsRoutable message) }
     ensures prepared { IfOk result (IsPrepared setup.now message source) }
     ensures start { IfOk result (λ request. request.start ≡ message.start) }
     ensures hops { IfOk result (λ request. IfSome (first_value hops_name request.headers) IsHops) }
-    ensures refused { IfErr result (IsUnroutable message) }
+    ensures refused { IfErr result (IfRejected (IsUnroutableAs message source)) }
 {
     marking_keeps_the_rest();
     taking_own_routes_keeps_the_rest();
@@ -90,21 +95,22 @@ fn prepared<A: Allocator + Clone>(
 ///
 /// # Errors
 ///
-/// The first that holds of: `BadRequest`, `Scheme`, `Hops`, `Loop`; and `NoMemory` wherever the allocator refuses.
+/// `Rejected` with the first that holds of: `BadRequest`, with the request as it came; `Scheme`, `Hops`, with the request with its
+/// source; `Loop`, with the request as it was prepared. `NoMemory` wherever the allocator refuses.
 pub fn validate_request<A: Allocator + Clone>(
     alloc: A,
     setup: &Setup<A>,
     message: Message<A>,
     source: Hop,
-) -> Result<Message<A>, RequestRejection>
+) -> Result<Message<A>, Unrouted<A>>
     ensures admitted { IfOk result (IsAdmitted setup.now message source) }
     ensures start { IfOk result (λ request. request.start ≡ message.start) }
     ensures hops { IfOk result (λ request. IfSome (first_value hops_name request.headers) IsHops) }
-    ensures refused { IfErr result (IsTurnedAway setup.now message source) }
+    ensures refused { IfErr result (IfRejected (IsTurnedBack setup.now message source)) }
 {
     let request = prepared(alloc, setup, message, source)?;
     if is_loop(&request, setup.own()) {
-        return Err(RequestRejection::Loop);
+        return Err(Unrouted::Rejected(RequestRejection::Loop, request));
     }
     Ok(request)
 }

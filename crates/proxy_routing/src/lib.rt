@@ -12,6 +12,7 @@ mod fault;
 mod law;
 mod own_routes;
 mod targets;
+mod unrouted;
 
 pub use admission::validate_request;
 pub use checks::asks_extension;
@@ -20,3 +21,4 @@ pub use law::taking_own_routes_keeps_the_rest;
 pub use targets::{
     CandidateTarget, candidates, have_hops, hop_by, hop_if_any, is_domain, targets_of,
 };
+pub use unrouted::Unrouted;

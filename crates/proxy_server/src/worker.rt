@@ -8,7 +8,7 @@ use call_table::Shelf;
 use fork_call::{Call, Port, Setup, carry};
 use fork_clock::Schedule;
 use log::Log;
-use proxy_dispatch::{Handled, Memory, Received, Unlimited, handle};
+use proxy_dispatch::{Handled, Memory, Received, SharedCalls, Unlimited, handle};
 use std::alloc::{AllocError, Allocator, Global};
 use std::sync::Wait;
 use worker_jobs::JobReceiver;
@@ -97,8 +97,9 @@ impl<A: Allocator + Clone> Proxy<A> {
             return self.refused.note(rt, "datagrams left for want of memory");
         };
         let memory = Memory { alloc, heap };
-        let (calls, setup) = (&self.calls, &self.setup);
-        match handle(rt, memory, calls, setup, &Unlimited, received, port) {
+        let mut calls = SharedCalls::new(&self.calls);
+        let setup = &self.setup;
+        match handle(rt, memory, &mut calls, setup, &Unlimited, received, port) {
             Ok(Handled::Opened(number) | Handled::Delivered(number)) => {
                 self.carry(rt, port, number, received.now);
             }

@@ -3,7 +3,7 @@ use crate::quota::QuotaAt;
 use crate::service::Service;
 use daemon_parts::is_keep_alive;
 use fork_call::Port;
-use proxy_dispatch::{Handled, Memory, Received, handle};
+use proxy_dispatch::{Handled, Memory, Received, SharedCalls, handle};
 use std::alloc::{AllocError, Allocator};
 use std::sync::Wait;
 use std::time::Clock;
@@ -26,8 +26,8 @@ impl<A: Allocator + Copy> Service<A> {
             now: received.now,
         };
         let setup = self.setup.read(rt);
-        let calls = &self.calls.shelf;
-        handle(rt, memory, calls, &*setup, &places, received, port)
+        let mut calls = SharedCalls::new(&self.calls.shelf);
+        handle(rt, memory, &mut calls, &*setup, &places, received, port)
     }
 
     /// Counts what became of a datagram, and carries the call that it opened or that took it.

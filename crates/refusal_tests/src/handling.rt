@@ -8,7 +8,7 @@ use crate::plays::plays;
 use crate::sources::Alloc;
 use call_table::Shelf;
 use fork_call::{Call, Datagram, Port, Setup, carry};
-use proxy_dispatch::{Handled, Memory, Received, Unlimited, handle};
+use proxy_dispatch::{Handled, Memory, Received, SharedCalls, Unlimited, handle};
 use refusing::{Answer, Heap, Play, Repeated};
 use sip_uri::Hop;
 use std::alloc::{Allocator, Global};
@@ -234,7 +234,7 @@ impl<R: Wait> Proxy<'_, '_, R> {
         handle(
             self.rt,
             memory,
-            self.shelf,
+            &mut SharedCalls::new(self.shelf),
             self.setup,
             &Unlimited,
             received,

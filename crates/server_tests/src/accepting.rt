@@ -9,7 +9,7 @@ use crate::holds::holds;
 use call_table::Shelf;
 use fork_call::{Call, Cause, Datagram, Port, Setup, carry};
 use fork_context::State;
-use proxy_dispatch::{Handled, Memory, Received, Unlimited, handle};
+use proxy_dispatch::{Handled, Memory, Received, SharedCalls, Unlimited, handle};
 use sip_uri::{Hop, Transport};
 use std::alloc::{Allocator, Global};
 use std::process::Abort;
@@ -198,8 +198,9 @@ impl Taking for Desk {
             source: SOURCE,
             now: 0,
         };
-        let (calls, setup) = (&self.calls, &self.setup);
-        match handle(rt, memory, calls, setup, &Unlimited, received, tally) {
+        let mut calls = SharedCalls::new(&self.calls);
+        let setup = &self.setup;
+        match handle(rt, memory, &mut calls, setup, &Unlimited, received, tally) {
             Ok(Handled::Opened(number) | Handled::Delivered(number)) => {
                 self.calls
                     .with(rt, number, |call| is_carried(rt, call, tally))

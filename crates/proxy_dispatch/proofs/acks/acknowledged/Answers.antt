@@ -1,15 +1,15 @@
 use Rattle.proxy_dispatch.proofs.Common.{None, ap, refl, subst, sym, ◌∙◌, Passes, seen_sent}
 use Rattle.std.proofs.lemmas.Bool.{false≢true}
 use Rattle.proxy_dispatch.specs.declared.datagrams.Handled.TheVariants.{Dropped}
-use Rattle.proxy_dispatch.proofs.Becoming.{becomes_at, dropped_ack}
+use Rattle.proxy_dispatch.specs.Becomes.{AckBecomes}
+use Rattle.proxy_dispatch.proofs.Outcomes.{outcome_at}
 use Rattle.proxy_dispatch.proofs.acks.acknowledged.Goals as goal
 
 pub returns-in-None : goal.returns-in-None
 returns-in-None g c =
     let setup = c.args.setup.now in
-    let source = c.args.received.source in
-    let P : _ → Type 0 = λ sent. Passes setup c.args.ack source (seen_sent sent) in
-    let dropped = dropped_ack setup c.args.ack source c.requires (λ h. false≢true (sym c.if-has_own_tag.false ∙ c.has_own_tag.ensures.1 h))
-    (subst P c.in-None.is c.in_ok-passing.ensures) in
-    becomes_at setup c.args.ack source c.args.received.now c.silent-in-None.result.handled Dropped (seen_sent c.silent-in-None.result.datagram) None
-    c.silent-in-None.ensures.handled (ap seen_sent c.silent-in-None.ensures.silent) (dropped, refl)
+    let P : _ → Type 0 = λ sent. Passes setup c.args.ack c.args.source (seen_sent sent) in
+    outcome_at (λ handled sent. AckBecomes setup c.args.ack c.args.source handled sent)
+    c.silent-in-None.result.handled Dropped (seen_sent c.silent-in-None.result.datagram) None
+    c.silent-in-None.ensures.handled (ap seen_sent c.silent-in-None.ensures.silent)
+    (λ h. false≢true (sym c.if-has_own_tag.false ∙ c.has_own_tag.ensures.1 h), subst P c.in-None.is c.in_ok-passing.ensures, refl)

@@ -4,12 +4,15 @@ use Rattle.proxy_routing.proofs.Admitting.{fault_of_other_scheme, may_pass, othe
 use Rattle.proxy_routing.proofs.admission.routable.Goals as goal
 
 pub returns-then-not-is_formed-clause-refused : goal.returns-then-not-is_formed-clause-refused
-returns-then-not-is_formed-clause-refused g c = unformed c.args.message (sym c.if-not-is_formed.ensures)
+returns-then-not-is_formed-clause-refused g c = (unformed c.args.message (sym c.if-not-is_formed.ensures), refl)
 
 pub returns-then-is_of_another_scheme-clause-refused : goal.returns-then-is_of_another_scheme-clause-refused
 returns-then-is_of_another_scheme-clause-refused g c = (
-  c.in_ok-marked.ensures.formed,
-  other_scheme c.args.message c.request_uri.result.now c.uri_fault-fault.result c.uri_fault-fault.ensures.exact c.request_uri.ensures (c.if-is_of_another_scheme.ensures.0 refl),
+  (
+    c.in_ok-marked.ensures.formed,
+    other_scheme c.args.message c.request_uri.result.now c.uri_fault-fault.result c.uri_fault-fault.ensures.exact c.request_uri.ensures (c.if-is_of_another_scheme.ensures.0 refl),
+  ),
+  c.in_ok-marked.ensures.marked,
 )
 
 pub returns-clause-well : goal.returns-clause-well

@@ -6,7 +6,7 @@ use Rattle.proxy_routing.proofs.admission.validate_request.Goals as goal
 pub returns-then-is_loop-clause-refused : goal.returns-then-is_loop-clause-refused
 returns-then-is_loop-clause-refused g c =
     let P : Own → Type 0 = λ own. IsLoop c.in_ok-request.request own in
-    (c.in_ok-request.ensures.routable, c.in_ok-request.request, c.in_ok-request.ensures.prepared, subst P c.own.ensures.value (c.if-is_loop.ensures.0 refl))
+    ((c.in_ok-request.ensures.routable, c.in_ok-request.request, c.in_ok-request.ensures.prepared, subst P c.own.ensures.value (c.if-is_loop.ensures.0 refl)), c.in_ok-request.ensures.prepared)
 
 pub returns-clause-admitted : goal.returns-clause-admitted
 returns-clause-admitted g c =

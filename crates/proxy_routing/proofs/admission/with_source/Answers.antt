@@ -10,4 +10,4 @@ returns-in-Ok-clause-formed g c =
 pub returns-in-BadVia-clause-refused : goal.returns-in-BadVia-clause-refused
 returns-in-BadVia-clause-refused g c =
     let m = c.args.message in
-    unread m (unread_if_refused m c.args.source (c.readable_is_marked.ensures.marked m c.args.source) (sym c.in-Err.ensures.refused ∙ c.in-BadVia.is))
+    (unread m (unread_if_refused m c.args.source (c.readable_is_marked.ensures.marked m c.args.source) (sym c.in-Err.ensures.refused ∙ c.in-BadVia.is)), c.in-Err.ensures.err)

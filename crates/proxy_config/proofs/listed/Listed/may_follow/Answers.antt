@@ -2,7 +2,7 @@ use Rattle.proxy_config.proofs.Common.{◌≡◌, ◌∙◌, List, Location, ap,
 use Rattle.std.proofs.Common.{rules}
 use Rattle.std.specs.Prelude.{slice_get}
 use Rattle.proxy_config.specs.Setup.{location_key}
-use Rattle.proxy_config.specs.inner.Reading.{may_follow}
+use Rattle.proxy_config.specs.Parts.{may_follow}
 use Rattle.proxy_config.specs.inner.UserPlaces.{has_key}
 use Rattle.proxy_config.proofs.UserPlaces.{may_follow_by}
 use Rattle.proxy_config.proofs.listed.Listed.may_follow.Goals as goal

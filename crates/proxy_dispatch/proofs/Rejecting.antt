@@ -1,0 +1,84 @@
+-- The answer to a request that opens no call is that to the request as it came, though it is made of what was given back.
+use Rattle.proxy_dispatch.proofs.Common.{◌≡◌, ◌∙◌, [], ℕ, List, Option, Some, Ok, ap, refl, sym, subst, MessageText, Hop, Own, Setup, Datagram, Handled}
+use Rattle.std.proofs.Common.{Bool, false, codes}
+use Rattle.std.specs.List.{flat_map}
+use Rattle.sip_text.specs.Name.{full_name, same_name, values_of}
+use Rattle.sip_text.specs.Text.{HeaderText, spelling}
+use Rattle.sip_via.specs.Received.{marked, reply_of}
+use Rattle.sip_via.specs.TopVia.{first_or_empty, top_value, values_in}
+use Rattle.sip_via.specs.ViaParts.{via_of}
+use Rattle.sip_route.specs.Routes.{route_name, stripped}
+use Rattle.sip_build.specs.declared.responses.OwnStatus.{OwnStatus}
+use Rattle.sip_build.specs.Generated.{code_of, generated_of}
+use Rattle.call_model.specs.declared.cause.Cause.TheVariants as cause
+use Rattle.proxy_routing.specs.declared.fault.RequestRejection.{RequestRejection}
+use Rattle.proxy_routing.specs.declared.fault.RequestRejection.TheVariants.{BadRequest, Scheme, Hops, Loop, Extension, NoTarget, NoHop, NoMemory}
+use Rattle.proxy_routing.specs.Admission.{IsPrepared}
+use Rattle.proxy_routing.specs.Refusing.{status_of_fault}
+use Rattle.proxy_routing.proofs.laws.OwnRoutes.{kept}
+use Rattle.call_routing.specs.Opening.{IsRefusedFor}
+use Rattle.proxy_dispatch.specs.declared.datagrams.Handled.TheVariants.{Answered}
+use Rattle.proxy_dispatch.specs.Becomes.{IsRejected}
+use Rattle.proxy_dispatch.specs.Sent.{answer_made, answer_of, answer_to}
+
+-- want of memory gives no request back
+pub no_memory : (setup : Setup) (m : MessageText) (source : Hop) (fault : RequestRejection) (back : MessageText) → IsRefusedFor setup m source fault back → fault ≡ NoMemory → ⊥
+no_memory setup m source fault back h e =
+    let P : RequestRejection → Type 0 = λ f. IsRefusedFor setup m source f back in
+    (subst P e h).1
+
+abbrev KeepsAnswers : Type 0
+KeepsAnswers = (m : MessageText) (own : Own) (status : OwnStatus) (further : List HeaderText) → generated_of (stripped m own) status further ≡ generated_of m status further
+
+abbrev KeepsOthers : Type 0
+KeepsOthers = (m : MessageText) (own : Own) (name : List ℕ) → same_name route_name name ≡ false → values_of name (stripped m own).headers ≡ values_of name m.headers
+
+not_route : same_name route_name (codes "via") ≡ false
+unfolding full_name
+not_route = refl
+
+module _ (answers : KeepsAnswers) (others : KeepsOthers) (source : Hop) (status : OwnStatus) where
+  answer_with : MessageText → Datagram
+  answer_with x = answer_to x status [] (reply_of (via_of (top_value x)) source)
+
+  same_top : (x : MessageText) (own : Own) → top_value (stripped x own) ≡ top_value x
+  same_top x own = ap (λ (lines : List (List ℕ)). first_or_empty (flat_map values_in lines)) (others x own (codes "via") not_route)
+
+  stripped_answer : (x : MessageText) (own : Own) → answer_to (stripped x own) status [] (reply_of (via_of (top_value (stripped x own))) source) ≡ answer_to x status [] (reply_of (via_of (top_value x)) source)
+  stripped_answer x own =
+      λ k. record { to = reply_of (via_of (same_top x own k)) source; bytes = spelling (answers x own status [] k); cause = cause.Answer }
+
+  with_source_answer : (m back : MessageText) → marked m source ≡ Ok back → answer_to back status [] (reply_of (via_of (top_value back)) source) ≡ answer_of m source status []
+  with_source_answer m back e = sym (ap (answer_made source status [] m) e)
+
+  prepared_answer : (setup : Setup) (m back : MessageText) → IsPrepared setup m source back → answer_to back status [] (reply_of (via_of (top_value back)) source) ≡ answer_of m source status []
+  prepared_answer setup m back (with_source, is, same) =
+      ap (λ (x : MessageText). answer_to x status [] (reply_of (via_of (top_value x)) source)) same
+      ∙ kept (λ (x : MessageText). answer_to x status [] (reply_of (via_of (top_value x)) source)) stripped_answer setup with_source
+      ∙ with_source_answer m with_source is
+
+  pub rejection : (setup : Setup) (m : MessageText) (fault : RequestRejection) (back : MessageText) (d : Datagram) → IsRefusedFor setup m source fault back
+      → (fault ≡ BadRequest → d ≡ answer_of back source status [])
+      → ((fault ≡ BadRequest → ⊥) → d ≡ answer_to back status [] (reply_of (via_of (top_value back)) source)) → d ≡ answer_of m source status []
+  rejection setup m BadRequest back d h plain with_source = plain refl ∙ ap (λ (x : MessageText). answer_of x source status []) h.1
+  rejection setup m Scheme back d h plain with_source = with_source (λ e. absurd cc) ∙ with_source_answer m back h.1
+  rejection setup m Hops back d h plain with_source = with_source (λ e. absurd cc) ∙ with_source_answer m back h.1
+  rejection setup m Loop back d h plain with_source = with_source (λ e. absurd cc) ∙ prepared_answer setup m back h.1
+  rejection setup m Extension back d h plain with_source = with_source (λ e. absurd cc) ∙ prepared_answer setup m back h.1
+  rejection setup m NoTarget back d h plain with_source = with_source (λ e. absurd cc) ∙ prepared_answer setup m back h.1
+  rejection setup m NoHop back d h plain with_source = with_source (λ e. absurd cc) ∙ prepared_answer setup m back h.1
+  rejection setup m NoMemory back d h plain with_source = absurd h.1
+
+  pub rejected_so : (setup : Setup) (m : MessageText) (fault : RequestRejection) (back : MessageText) (d : Datagram) (code : ℕ) (handled : Handled) (sent : Option Datagram)
+      → IsRefusedFor setup m source fault back → status_of_fault fault ≡ Some (code_of status) → code ≡ code_of status
+      → (fault ≡ BadRequest → d ≡ answer_of back source status [])
+      → ((fault ≡ BadRequest → ⊥) → d ≡ answer_to back status [] (reply_of (via_of (top_value back)) source))
+      → handled ≡ Answered code → sent ≡ Some d → IsRejected setup m source [] handled sent
+  rejected_so setup m fault back d code handled sent h s e plain with_source f g = record {
+    fault = fault;
+    status = status;
+    refuses = h.0;
+    status_is = s;
+    unseen = refl;
+    answered = (f ∙ ap Answered e, g ∙ ap Some (rejection setup m fault back d h plain with_source));
+  }

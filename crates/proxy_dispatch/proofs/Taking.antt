@@ -1,0 +1,78 @@
+-- What a call does with a message that it is given.
+use Rattle.proxy_dispatch.proofs.Common.{◌≡◌, [], ◌∷◌, ℕ, List, Option, None, Result, Ok, Err, ap, inl, inr, refl, sym, subst, MessageText, Hop, Call, Look, Datagram}
+use Rattle.std.specs.Prelude.{IfOk, IsErrOf, OnErr}
+use Rattle.call_model.specs.SeenTaken.{seen_taken}
+use Rattle.call_model.specs.Take.{MatchedTransaction, Server, ServerAck, ServerCancel, Client, CancelClient, Taken, Absorbed, Posted, Full, TakesAs, TakesCancel, Responds, RespondsOn, CancelledBy}
+use Rattle.call_model.specs.declared.taken.Taken as memory
+use Rattle.call_routing.specs.Matching.{BelongsToNone}
+use Rattle.fork_call.specs.declared.fault.TakeFault.{TakeFault}
+use Rattle.fork_call.specs.declared.fault.TakeFault.TheVariants as fault
+use Rattle.fork_call.specs.Takes.{Takes}
+use Rattle.proxy_dispatch.specs.declared.datagrams.Handled.TheVariants.{Dropped, Delivered}
+use Rattle.proxy_dispatch.specs.Becomes.{IsGiven, IsLeft}
+use Rattle.proxy_dispatch.specs.Looks.{Seen}
+use Rattle.proxy_dispatch.specs.inner.Becomes.{AnswersTake}
+
+number_of : Call → ℕ
+number_of call = call.opened.number
+
+cancel_keeps : (call new : Call) (cancel : MessageText) (to : Hop) (taken : Taken) → CancelledBy call cancel to taken new → new.opened.number ≡ call.opened.number
+cancel_keeps call new cancel to Absorbed (no, is) = ap number_of is
+cancel_keeps call new cancel to (Posted at) (yes, reply, at_is, posts) = ap number_of posts.follows
+cancel_keeps call new cancel to Full h = absurd h
+
+response_keeps : (call new : Call) (n now : ℕ) (m : MessageText) (taken : Taken) → RespondsOn call n now m taken new → new.opened.number ≡ call.opened.number
+response_keeps call new n now m Absorbed (branch, destination, b, d, (kept, is)) = ap number_of is
+response_keeps call new n now m (Posted at) (branch, destination, b, d, (passed, reply, at_is, first, is_first, posts)) = ap number_of posts.follows
+response_keeps call new n now m Full (branch, destination, b, d, (passed, full, is)) = ap number_of is
+
+keeps : (call new : Call) (now : ℕ) (m : MessageText) (source : Hop) (to : MatchedTransaction) (taken : Taken) → TakesAs call now m source to taken new → new.opened.number ≡ call.opened.number
+keeps call new now m source Server Absorbed is = ap number_of is
+keeps call new now m source Server (Posted at) h = absurd h
+keeps call new now m source Server Full h = absurd h
+keeps call new now m source ServerAck Absorbed is = ap number_of is
+keeps call new now m source ServerAck (Posted at) h = absurd h
+keeps call new now m source ServerAck Full h = absurd h
+keeps call new now m source ServerCancel taken (cancel, marked, by) = cancel_keeps call new cancel _ taken by
+keeps call new now m source (Client n) taken on = response_keeps call new n now m taken on
+keeps call new now m source (CancelClient n) Absorbed (branch, cancelling, b, c, is) = ap number_of is
+keeps call new now m source (CancelClient n) (Posted at) h = absurd h
+keeps call new now m source (CancelClient n) Full h = absurd h
+
+-- a call that is given a message keeps its number
+pub number_kept : (r : Result memory.Taken TakeFault) (call new : Call) (m : MessageText) (source : Hop) (now : ℕ) → AnswersTake call m source now r new
+    → new.opened.number ≡ call.opened.number
+number_kept (Ok taken) call new m source now (to, belongs, takes) = keeps call new now m source to (seen_taken taken) takes
+number_kept (Err fault.Stray) call new m source now h = ap number_of h.1
+number_kept (Err fault.Full) call new m source now h = ap number_of h.1
+number_kept (Err fault.NoMemory) call new m source now h = ap number_of h
+
+pub answers_so : (r : Result memory.Taken TakeFault) (call new : Call) (m : MessageText) (source : Hop) (now : ℕ)
+    → IfOk r (λ taken. Takes call now m source (seen_taken taken) new) → (IsErrOf r fault.Stray → BelongsToNone call m)
+    → (IsErrOf r fault.Full → Takes call now m source Full call) → OnErr r (new ≡ call) → AnswersTake call m source now r new
+answers_so (Ok taken) call new m source now takes stray full same = takes
+answers_so (Err fault.Stray) call new m source now takes stray full same = (stray refl, same)
+answers_so (Err fault.Full) call new m source now takes stray full same = (full refl, same)
+answers_so (Err fault.NoMemory) call new m source now takes stray full same = same
+
+-- what becomes of the message
+pub taken_given : (number : ℕ) (taken : memory.Taken) (call new : Call) (m : MessageText) (source : Hop) (now : ℕ) → call.opened.number ≡ number
+    → AnswersTake call m source now (Ok taken) new → IsGiven number m source now (Seen number call new ∷ []) (Delivered number) None
+taken_given number taken call new m source now e takes =
+    (refl, record { before = call; after = new; taken = taken; seen = refl; number_is = e; takes = takes }, refl)
+
+left_given : (number : ℕ) (call new : Call) (m : MessageText) (source : Hop) (now : ℕ) → call.opened.number ≡ number → new ≡ call → IsLeft number m source now (Seen number call call ∷ [])
+    → IsGiven number m source now (Seen number call new ∷ []) Dropped None
+left_given number call new m source now e same left =
+    let P : Call → Type 0 = λ x. IsGiven number m source now (Seen number call x ∷ []) Dropped None in
+    subst P (sym same) (inr left, refl)
+
+pub stray_given : (number : ℕ) (call new : Call) (m : MessageText) (source : Hop) (now : ℕ) → call.opened.number ≡ number
+    → AnswersTake call m source now (Err fault.Stray) new → IsGiven number m source now (Seen number call new ∷ []) Dropped None
+stray_given number call new m source now e (stray, same) =
+    left_given number call new m source now e same (record { call = call; seen = refl; number_is = e; why = inl stray })
+
+pub full_given : (number : ℕ) (call new : Call) (m : MessageText) (source : Hop) (now : ℕ) → call.opened.number ≡ number
+    → AnswersTake call m source now (Err fault.Full) new → IsGiven number m source now (Seen number call new ∷ []) Dropped None
+full_given number call new m source now e (full, same) =
+    left_given number call new m source now e same (record { call = call; seen = refl; number_is = e; why = inr full })
