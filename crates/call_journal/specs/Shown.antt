@@ -55,14 +55,20 @@ row_text rows n = codes " " ++ state_text (state_in rows n)
 abbrev pub states_text : List Row → List ℕ
 states_text rows = flat_map (row_text rows) (range_with_len 0 (length rows))
 
-abbrev pub call_text : CallShown → List ℕ
-call_text c = decimal c.number ++ (codes " " ++ (known_text c.age ++ (codes " " ++ (address_text c.address ++ (codes ":" ++ decimal c.port)))))
+abbrev pub number_text : CallShown → List ℕ
+number_text c = decimal c.number ++ (codes " " ++ known_text c.age)
+
+abbrev pub place_text : List ℕ → ℕ → List ℕ
+place_text address port = codes " " ++ (address_text address ++ (codes ":" ++ decimal port))
 
 abbrev pub asked_text : CallShown → List ℕ
 asked_text c = codes " " ++ (head.shown c.method.now ++ (codes " " ++ head.shown c.user.now))
 
+abbrev pub call_text : CallShown → List ℕ
+call_text c = number_text c ++ (place_text c.address c.port ++ asked_text c)
+
 abbrev pub call_line : CallShown → List Row → List ℕ
-call_line c rows = call_text c ++ (asked_text c ++ (states_text rows ++ codes "\n"))
+call_line c rows = call_text c ++ (states_text rows ++ codes "\n")
 
 abbrev pub times_text : BranchTimes → List ℕ
 times_text times = codes " since " ++ (known_text times.since ++ (codes " left " ++ known_text times.left))
@@ -70,6 +76,11 @@ times_text times = codes " since " ++ (known_text times.since ++ (codes " left "
 abbrev pub key_in : List Row → ℕ → List ℕ
 key_in rows n = target_at rows n
 
+abbrev pub standing_text : List Row → ℕ → List ℕ
+standing_text rows n = codes "target " ++ (decimal n ++ row_text rows n)
+
+abbrev pub uri_text : List ℕ → List ℕ
+uri_text key = codes " sip:" ++ (head.shown key ++ codes "\n")
+
 abbrev pub branch_line : List Row → ℕ → BranchTimes → List ℕ
-branch_line rows n times =
-    codes "target " ++ (decimal n ++ (row_text rows n ++ (times_text times ++ (codes " sip:" ++ (head.shown (key_in rows n) ++ codes "\n")))))
+branch_line rows n times = standing_text rows n ++ (times_text times ++ uri_text (key_in rows n))

@@ -5,8 +5,8 @@ use Rattle.fork_tree.specs.declared.row.State.TheVariants as state
 use Rattle.call_journal.specs.declared.notes.Happening.{Happening}
 use Rattle.call_journal.specs.declared.notes.Happening.TheVariants as happening
 use Rattle.call_journal.specs.declared.notes.Note.{Note}
-use Rattle.call_journal.specs.declared.since.Stage.{Stage}
-use Rattle.call_journal.specs.declared.since.Stage.TheVariants as stage
+use Rattle.call_journal.specs.declared.standing.Stage.{Stage}
+use Rattle.call_journal.specs.declared.standing.Stage.TheVariants as stage
 use Rattle.call_journal.specs.Notes.{is_of}
 
 abbrev pub is_at : Stage → Happening → Bool

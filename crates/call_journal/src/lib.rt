@@ -7,7 +7,7 @@ mod head;
 mod law;
 mod notes;
 mod shown;
-mod since;
+mod standing;
 mod why;
 
 pub use block::append_call;
@@ -15,4 +15,4 @@ pub use head::Head;
 pub use law::{failed_calls_are_listed_right, heads_are_lines, reasons_are_right};
 pub use notes::{Happening, Note};
 pub use shown::{BranchTimes, CallShown, append_branch_line, append_call_line};
-pub use since::since;
+pub use standing::since;

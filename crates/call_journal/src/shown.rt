@@ -1,6 +1,6 @@
 //! What an operator is told of a call that is kept.
 ghost use Rattle.std.specs.Prelude.{◌≡◌, ◌++◌, slice_get, OnOk};
-ghost use Rattle.call_journal.specs.Shown.{address_text, asked_text, branch_line, call_line, call_text, dotted, key_in, known_text, row_text, state_in, state_text, states_text, times_text};
+ghost use Rattle.call_journal.specs.Shown.{address_text, asked_text, branch_line, call_line, call_text, dotted, key_in, known_text, number_text, place_text, row_text, standing_text, state_in, state_text, states_text, times_text, uri_text};
 
 use crate::head::append_shown;
 use fork_context::{Context, End, State};
@@ -58,8 +58,8 @@ fn append_address<A: Allocator>(out: &mut Vec<u8, A>, address: [u8; 4]) -> Resul
 }
 
 /// Appends where a branch stands, in a word.
-fn append_state<A: Allocator>(out: &mut Vec<u8, A>, state: State) -> Result<(), AllocError>
-    ensures { OnOk result (out.new.items ≡ out.old.items ++ state_text state) }
+fn append_state<A: Allocator>(out: &mut Vec<u8, A>, state: &State) -> Result<(), AllocError>
+    ensures { OnOk result (out.new.items ≡ out.old.items ++ state_text state.now) }
 {
     match state {
         State::Idle => append(out, b"waiting"),
@@ -93,7 +93,7 @@ fn append_row<A: Allocator, B: Allocator + Clone>(
     ensures { OnOk result (out.new.items ≡ out.old.items ++ row_text context.now.table.rows n) }
 {
     append(out, b" ")?;
-    append_state(out, state_of(context, n))
+    append_state(out, &state_of(context, n))
 }
 
 /// Appends where each branch stands, by number.
@@ -109,20 +109,30 @@ fn append_states<A: Allocator, B: Allocator + Clone>(
     Ok(())
 }
 
-/// Appends which call it is, for how long it is open, and where its answers go.
-fn append_call_front<A: Allocator>(
+/// Appends which call it is, and for how long it is open.
+fn append_number<A: Allocator>(
     out: &mut Vec<u8, A>,
     shown: &CallShown<'_>,
 ) -> Result<(), AllocError>
-    ensures { OnOk result (out.new.items ≡ out.old.items ++ call_text shown.now) }
+    ensures { OnOk result (out.new.items ≡ out.old.items ++ number_text shown.now) }
 {
     append_decimal(out, shown.number)?;
     append(out, b" ")?;
-    append_known(out, shown.age)?;
+    append_known(out, shown.age)
+}
+
+/// Appends an address and a port.
+fn append_place<A: Allocator>(
+    out: &mut Vec<u8, A>,
+    address: [u8; 4],
+    port: u16,
+) -> Result<(), AllocError>
+    ensures { OnOk result (out.new.items ≡ out.old.items ++ place_text address port) }
+{
     append(out, b" ")?;
-    append_address(out, shown.address)?;
+    append_address(out, address)?;
     append(out, b":")?;
-    append_decimal(out, u64::from(shown.port))
+    append_decimal(out, u64::from(port))
 }
 
 /// Appends what it asks for.
@@ -136,6 +146,18 @@ fn append_asked<A: Allocator>(
     append_shown(out, shown.method)?;
     append(out, b" ")?;
     append_shown(out, shown.user)
+}
+
+/// Appends which call it is, where its answers go, and what it asks for.
+fn append_call_front<A: Allocator>(
+    out: &mut Vec<u8, A>,
+    shown: &CallShown<'_>,
+) -> Result<(), AllocError>
+    ensures { OnOk result (out.new.items ≡ out.old.items ++ call_text shown.now) }
+{
+    append_number(out, shown)?;
+    append_place(out, shown.address, shown.port)?;
+    append_asked(out, shown)
 }
 
 /// Appends the line of a call that is kept: its number, for how many milliseconds it is open, where its answers go, its method, the user of its
@@ -152,7 +174,6 @@ pub fn append_call_line<A: Allocator, B: Allocator + Clone>(
     ensures { OnOk result (out.new.items ≡ out.old.items ++ call_line shown.now context.now.table.rows) }
 {
     append_call_front(out, shown)?;
-    append_asked(out, shown)?;
     append_states(out, context)?;
     append(out, b"\n")
 }
@@ -165,6 +186,28 @@ fn append_times<A: Allocator>(out: &mut Vec<u8, A>, times: BranchTimes) -> Resul
     append_known(out, times.since)?;
     append(out, b" left ")?;
     append_known(out, times.left)
+}
+
+/// Appends the number of a branch, and where it stands.
+fn append_standing<A: Allocator, B: Allocator + Clone>(
+    out: &mut Vec<u8, A>,
+    context: &Context<B>,
+    n: u16,
+) -> Result<(), AllocError>
+    ensures { OnOk result (out.new.items ≡ out.old.items ++ standing_text context.now.table.rows n) }
+{
+    append(out, b"target ")?;
+    append_decimal(out, u64::from(n))?;
+    append_row(out, context, n)
+}
+
+/// Appends a target, and the end of the line.
+fn append_target<A: Allocator>(out: &mut Vec<u8, A>, key: &[u8]) -> Result<(), AllocError>
+    ensures { OnOk result (out.new.items ≡ out.old.items ++ uri_text key.now) }
+{
+    append(out, b" sip:")?;
+    append_shown(out, key)?;
+    append(out, b"\n")
 }
 
 /// The target of row n, as targets are compared.
@@ -187,11 +230,7 @@ pub fn append_branch_line<A: Allocator, B: Allocator + Clone>(
 ) -> Result<(), AllocError>
     ensures { OnOk result (out.new.items ≡ out.old.items ++ branch_line context.now.table.rows n times) }
 {
-    append(out, b"target ")?;
-    append_decimal(out, u64::from(n))?;
-    append_row(out, context, n)?;
+    append_standing(out, context, n)?;
     append_times(out, times)?;
-    append(out, b" sip:")?;
-    append_shown(out, key_of(context, n))?;
-    append(out, b"\n")
+    append_target(out, key_of(context, n))
 }

@@ -1,6 +1,0 @@
-use Rattle.std.proofs.Common.{◌≡◌, drop}
-use Rattle.call_journal.specs.Since.{first_at}
-use Rattle.call_journal.proofs.since.first_at.Given as goal
-
-abbrev pub invariant-loop-note : goal.invariant-loop-note
-invariant-loop-note g l = first_at l.notes l.n l.stage ≡ first_at (drop l.note-index l.notes) l.n l.stage
