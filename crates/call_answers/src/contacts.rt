@@ -73,7 +73,7 @@ fn add_contacts<A: Allocator + Clone>(
 fn add_each<A: Allocator + Clone>(
     contacts: &mut Vec<Contact<A>, A>,
     alloc: &A,
-    mut values: Values<'_, '_, A>,
+    mut values: Values<'_, '_>,
 ) -> Result<(), AllocError>
     ensures { OnOk result (view_contacts contacts.new.items ≡ view_contacts contacts.old.items ++ flat_map contacts_at values.entry) }
 {

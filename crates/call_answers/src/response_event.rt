@@ -3,7 +3,7 @@ ghost use Rattle.std.specs.Prelude.{◌≡◌, ◌≤◌, ◌++◌, map, IfOk, O
 ghost use Rattle.std.specs.List.{flat_map};
 ghost use Rattle.std.specs.Option.{option_to_list};
 ghost use Rattle.context_values.specs.EventView.{event_of};
-ghost use Rattle.sip_text.specs.Seen.{view, views};
+ghost use Rattle.sip_text.specs.Seen.{view_line, views};
 ghost use Rattle.call_answers.specs.NewDestinations.{GivesDestinations};
 ghost use Rattle.call_model.specs.Posting.{destination_of_contact};
 ghost use Rattle.call_model.specs.Response.{challenge_in, challenges_by, contacts_for, event_by};
@@ -13,7 +13,7 @@ use call_branch::{Destination, OpenedRequest};
 use fork_context::{Answer, Challenge, Event};
 use fork_model::new_rows_are_contacts;
 use fork_rank::{RingStatus, Status};
-use sip_text::{Header, Message};
+use sip_text::{HeaderLine, HeaderLines, Message};
 use std::alloc::{AllocError, Allocator};
 
 /// The event that a response of a branch is, and for each of its contacts where the request to it goes, where it may be
@@ -27,9 +27,9 @@ pub struct ResponseEvent<A: Allocator> {
 /// The challenge that a header field is, if it is one (RFC 3261 sections 20.27 and 20.44).
 fn challenge_in<A: Allocator + Clone>(
     alloc: &A,
-    header: &Header<A>,
+    header: HeaderLine<'_>,
 ) -> Result<Option<Challenge<A>>, AllocError>
-    ensures { IfOk result (λ challenge. option_to_list challenge ≡ challenge_in (view header.now)) }
+    ensures { IfOk result (λ challenge. option_to_list challenge ≡ challenge_in (view_line header.entry)) }
 {
     let proxy = if header.is_named(b"www-authenticate") {
         false
@@ -38,7 +38,7 @@ fn challenge_in<A: Allocator + Clone>(
     } else {
         return Ok(None);
     };
-    let value = Vec::from_slice(alloc.clone()?, header.value())?;
+    let value = Vec::from_slice(alloc.clone()?, header.value)?;
     Ok(Some(Challenge::new(proxy, value)))
 }
 
@@ -46,9 +46,9 @@ fn challenge_in<A: Allocator + Clone>(
 fn add_challenge<A: Allocator + Clone>(
     challenges: &mut Vec<Challenge<A>, A>,
     alloc: &A,
-    header: &Header<A>,
+    header: HeaderLine<'_>,
 ) -> Result<(), AllocError>
-    ensures { OnOk result (challenges.new.items ≡ challenges.old.items ++ challenge_in (view header.now)) }
+    ensures { OnOk result (challenges.new.items ≡ challenges.old.items ++ challenge_in (view_line header.entry)) }
 {
     if let Some(challenge) = challenge_in(alloc, header)? {
         challenges.push(challenge)?;
@@ -59,9 +59,9 @@ fn add_challenge<A: Allocator + Clone>(
 /// The challenges of a message, in order.
 fn challenges_in<A: Allocator + Clone>(
     alloc: &A,
-    headers: &[Header<A>],
+    headers: HeaderLines<'_>,
 ) -> Result<Vec<Challenge<A>, A>, AllocError>
-    ensures { IfOk result (λ cs. cs.items ≡ flat_map challenge_in (views headers.now)) }
+    ensures { IfOk result (λ cs. cs.items ≡ flat_map challenge_in (views headers.entry)) }
 {
     let mut challenges = Vec::new(alloc.clone()?);
     for header in headers {

@@ -4,11 +4,11 @@ ghost use Rattle.std.specs.List.{list_all};
 ghost use Rattle.std.specs.Option.{option_copied, option_map};
 ghost use Rattle.sip_text.specs.Message.{is_header, is_value};
 ghost use Rattle.sip_text.specs.Name.{first_value};
+ghost use Rattle.sip_text.specs.Seen.{view_lines};
 ghost use Rattle.sip_text.specs.Text.{spelling};
 ghost use Rattle.sip_via.specs.OwnVia.{over};
 ghost use Rattle.sip_route.specs.Hops.{IsHops, hops_name};
 ghost use Rattle.sip_build.specs.Forwarding.{is_request};
-ghost use Rattle.sip_build.specs.Further.{view_lines};
 ghost use Rattle.fork_rank.specs.KindView as kinds;
 ghost use Rattle.call_model.specs.Built.{ack_to, cancel_to, request_to};
 ghost use Rattle.call_model.specs.OpenedRequest.{branch_at, is_invite, kind_of};
@@ -18,9 +18,9 @@ ghost use Rattle.call_branch.specs.OpenedRequestInside.{opened_with};
 use crate::destination::Destination;
 use call_model::TriedContacts;
 use fork_rank::Kind;
-use sip_build::{FurtherLine, write_forwarded, write_forwarded_ack, write_forwarded_cancel};
+use sip_build::{write_forwarded, write_forwarded_ack, write_forwarded_cancel};
 use sip_route::loop_key;
-use sip_text::Message;
+use sip_text::{HeaderLine, Message};
 use sip_txn::TxSend;
 use sip_uri::Hop;
 use sip_via::{BranchName, Own};
@@ -290,7 +290,7 @@ impl<A: Allocator + Clone> OpenedRequest<A> {
         alloc: &A,
         destination: &Destination<A>,
         n: u16,
-        reasons: &[FurtherLine<'_>],
+        reasons: &[HeaderLine<'_>],
     ) -> Result<Vec<u8, A>, AllocError>
         requires reasons { list_all is_header (view_lines reasons.now) ≡ true }
         ensures { IfOk result (λ bytes. bytes.items ≡ spelling (cancel_to self.now destination.now n (view_lines reasons.now))) }

@@ -65,7 +65,7 @@ abbrev pub Gives : Payment → MessageText → Type 0
 Gives payment answer = Sends payment answer ⊎ (Drops payment × (takes payment.call.server.machine (status_of answer) ≡ false))
 
 -- a response of a branch is sent as it came, with its own bytes behind the proxy's Via value, or dropped so; a 2xx to an INVITE is
--- dropped only once the caller's transaction has ended, which it does by timer L
+-- dropped only once the caller's transaction has ended
 abbrev pub GivesPassed : Payment → MessageText → Type 0
 GivesPassed payment response =
     Sends payment (upward_of response None [])

@@ -17,8 +17,7 @@ use Rattle.call_laws.specs.Stages.{Leads, Payment, Stage, end_of, owed_new, owed
 abbrev pub PostsSuccess : Turn → MessageText → Type 0
 PostsSuccess turn m = (n : ℕ) × (at : ℕ) × IsPostedBy turn n at m × (is_success (status_of m) ≡ true)
 
--- it is sent with its own bytes behind the proxy's Via value, or dropped once the caller's transaction has ended, which it does by
--- timer L
+-- it is sent with its own bytes behind the proxy's Via value, or dropped once the caller's transaction has ended
 abbrev pub GivesSuccess : Payment → MessageText → Type 0
 GivesSuccess payment m = Sends payment (upward_of m None []) ⊎ (Drops payment × is_over payment.call.server.machine)
 

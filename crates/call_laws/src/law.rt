@@ -73,8 +73,7 @@ pub fn one_final_answer_goes_up()
 /// Each 2xx that a branch of an INVITE answers, and that is posted, comes to be owed to the caller by that turn, whichever
 /// branch it is of and however many came before it. Once nothing is owed any more it was paid, at its place in the order in
 /// which all came to be owed: it was sent with its own bytes behind the proxy's Via value, or it was dropped since the caller's
-/// transaction had ended, which it does by timer L, 64 times T1 after the first 2xx (RFC 3261 sections 13.3.1.4 and 16.7 step 5,
-/// RFC 6026 section 7.1).
+/// transaction had ended (RFC 3261 sections 13.3.1.4 and 16.7 step 5, RFC 6026 section 7.1).
 ///
 /// A law over the definitions, with nothing to run.
 pub fn each_success_goes_up()

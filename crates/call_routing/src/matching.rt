@@ -13,7 +13,7 @@ ghost use Rattle.call_routing.specs.SeenMatchedTransaction.{seen_recipient};
 use crate::transaction::MatchedTransaction;
 use call_state::CallState;
 use sip_route::has_same_key;
-use sip_text::{Message, Method, Start};
+use sip_text::{Message, Method, StartLine};
 use sip_via::{BranchName, own_branch, top_and_second};
 use std::alloc::Allocator;
 
@@ -47,8 +47,8 @@ fn is_request_of<A: Allocator>(message: &Message<A>, method: &[u8]) -> bool
     ensures { result ≡ is_request_of method.now message.now.start }
 {
     match message.start() {
-        Start::Request { method: own, .. } => own.as_slice() == method,
-        Start::Response { .. } => false,
+        StartLine::Request { method: own, .. } => own == method,
+        StartLine::Response { .. } => false,
     }
 }
 
@@ -57,8 +57,8 @@ fn is_response<A: Allocator>(message: &Message<A>) -> bool
     ensures { result ≡ is_response message.now.start }
 {
     match message.start() {
-        Start::Request { .. } => false,
-        Start::Response { .. } => true,
+        StartLine::Request { .. } => false,
+        StartLine::Response { .. } => true,
     }
 }
 
@@ -74,8 +74,8 @@ fn opening_method<A: Allocator + Clone>(state: &CallState<A>) -> &[u8]
     ensures { result.now ≡ method_of state.now.opened.request.start }
 {
     match state.opened().request().start() {
-        Start::Request { method, .. } => method,
-        Start::Response { .. } => b"",
+        StartLine::Request { method, .. } => method,
+        StartLine::Response { .. } => b"",
     }
 }
 

@@ -25,8 +25,8 @@ use call_answers::PendingResponse;
 use call_branch::{OpenedRequest, status_of};
 use call_model::{Cause, Datagram, Step};
 use fork_context::{Challenge, Choice, Offer};
-use sip_build::{FurtherLine, OwnStatus, first_timestamp, write_generated, write_upward};
-use sip_text::Message;
+use sip_build::{OwnStatus, first_timestamp, write_generated, write_upward};
+use sip_text::{HeaderLine, Message};
 use sip_uri::Hop;
 use sip_via::BuildFault;
 use std::alloc::{AllocError, Allocator};
@@ -54,7 +54,7 @@ fn own_answer<A: Allocator>(
 }
 
 /// The Timestamp line of the request, where the 100 takes it.
-fn stamp_of<A: Allocator>(opened: &OpenedRequest<A>) -> Option<FurtherLine<'_>>
+fn stamp_of<A: Allocator>(opened: &OpenedRequest<A>) -> Option<HeaderLine<'_>>
     ensures exact { view_if_any result ≡ further_lines opened.now own.Trying }
     ensures good { list_all is_header (further_lines opened.now own.Trying) ≡ true }
 {

@@ -9,8 +9,8 @@ ghost use Rattle.call_state.specs.CallStateInside.{closing_of};
 
 use crate::reasons::ReasonLines;
 use call_branch::{Destination, OpenedRequest};
-use sip_build::FurtherLine;
 use sip_lex::append_decimal;
+use sip_text::HeaderLine;
 use std::alloc::{AllocError, Allocator};
 
 /// What it says where another branch accepted the call.
@@ -62,7 +62,7 @@ fn cancel_for<A: Allocator + Clone>(
     requires value { is_value value.now ≡ true }
     ensures { IfOk result (λ bytes. bytes.items ≡ spelling (cancel_to opened.now destination.now n (reason_line value.now ∷ []))) }
 {
-    let reason = FurtherLine {
+    let reason = HeaderLine {
         name: b"Reason",
         value,
     };

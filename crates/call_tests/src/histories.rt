@@ -1,6 +1,7 @@
 //! Whole calls, from the request that opens each to its end: every message that comes, every datagram that goes, byte for
 //! byte, and the moments between them.
 mod accepting;
+mod concluding;
 mod connecting;
 mod failing;
 mod four_targets;

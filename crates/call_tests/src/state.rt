@@ -16,7 +16,7 @@ use fork_book::Book;
 use fork_context::{Kind, Target};
 use fork_rank::Rules;
 use sip_lex::read_number;
-use sip_text::{Message, Start};
+use sip_text::{Message, StartLine};
 use sip_uri::{Hop, SipUri, Transport};
 use sip_via::Own;
 use std::alloc::{AllocError, Global};
@@ -258,7 +258,7 @@ fn fixed_by(request: Message<Global>) -> Option<OpenedRequest> {
         return None;
     }
     match request.start() {
-        Start::Request { .. } => Some(OpenedRequest::new(Opening {
+        StartLine::Request { .. } => Some(OpenedRequest::new(Opening {
             number: 3,
             own: OWN,
             instance: 7,
@@ -271,7 +271,7 @@ fn fixed_by(request: Message<Global>) -> Option<OpenedRequest> {
             reasons: true,
             ring: 181_000,
         })),
-        Start::Response { .. } => None,
+        StartLine::Response { .. } => None,
     }
 }
 

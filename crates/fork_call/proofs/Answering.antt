@@ -1,62 +1,26 @@
--- What a call that opened answers its caller.
+-- What a call that opened answers its caller, and sends.
 use Rattle.std.specs.Prelude.{◌≢◌}
-use Rattle.fork_call.proofs.Common.{◌≡◌, true, false, List, [], ◌∷◌, ◌++◌, refl, sym, subst, MessageText, Call, rows_of}
+use Rattle.fork_call.proofs.Common.{◌≡◌, ◌∙◌, true, false, ℕ, List, [], ◌∷◌, ◌++◌, Option, Some, refl, sym, ap, subst, slice_get, MessageText, Hop, Datagram, Call, Destination, rows_of}
 use Rattle.fork_model.specs.Table.{is_finished, is_succeeded}
-use Rattle.sip_text.specs.Message.{IsMessage}
-use Rattle.call_model.specs.Sound.{IsGiven, IsGivenTo}
-use Rattle.call_model.specs.Step as step
-use Rattle.call_model.specs.Step.{Input, Turn}
-use Rattle.call_model.specs.Take as to
-use Rattle.call_laws.specs.Answers.{AnswersOnce, AreGiven, CallsPayInOrder, PaysInOrder}
+use Rattle.sip_text.specs.Text.{spelling}
+use Rattle.call_model.specs.declared.cause.Cause.{Cause}
+use Rattle.call_model.specs.declared.cause.Cause.TheVariants as cause
+use Rattle.call_model.specs.Built.{request_to}
+use Rattle.call_model.specs.Pump.{Send}
+use Rattle.call_model.specs.Step.{Did}
+use Rattle.call_laws.specs.Answers.{AnswersOnce, CallsPayInOrder, PaysInOrder}
+use Rattle.call_laws.specs.EachDatagram.{IsRightAfter, IsSentAfter}
+use Rattle.call_laws.specs.EachDatagram as datagrams
 use Rattle.call_laws.specs.Answers as laws
 use Rattle.call_laws.specs.Successes.{GoesUp, PostsSuccess}
 use Rattle.call_laws.specs.Successes as successes
 use Rattle.call_model.specs.OpenedRequest.{is_invite}
-use Rattle.call_laws.specs.Stages.{Leads, end_of}
-use Rattle.call_routing.specs.Matching.{BelongsTo}
-use Rattle.call_routing.specs.Opening.{candidates_for, opened_of}
+use Rattle.call_laws.specs.Stages.{Leads, Stage, end_of}
+use Rattle.call_routing.specs.Opening.{Opens, candidates_for, opened_of}
 use Rattle.proxy_routing.specs.Targets.{CandidateTarget, targets_of}
-use Rattle.fork_call.specs.Answered.{CallsHaveStages, EachSuccessGoesUp, IsSaid, OneFinalAnswerGoesUp, OpenedCallsPayInOrder}
-use Rattle.fork_call.specs.Runs.{Came, IsInput, IsTurn, Lost, May, Said}
-use Rattle.fork_call.proofs.Running.{stepped}
-
--- ---- stages
-
-given_to : (call : Call) (m : MessageText) (r : to.MatchedTransaction) → BelongsTo call m r → IsMessage m → IsGivenTo r m
-given_to call m to.Server belongs is = tt
-given_to call m to.ServerAck belongs is = tt
-given_to call m to.ServerCancel belongs is = tt
-given_to call m (to.Client n) belongs is = (is, belongs.1)
-given_to call m (to.CancelClient n) belongs is = tt
-
-given_by : (call : Call) (said : Said) (input : Input) → IsInput call said input → IsSaid said → IsGiven input
-given_by call (Came m source) (step.Take r n hop) (belongs, same, hops) is =
-    let G : MessageText → Type 0 = λ x. IsGivenTo r x in
-    subst G (sym same) (given_to call m r belongs is)
-given_by call (Came m source) step.Pump h is = absurd h
-given_by call (Came m source) (step.Failed why) h is = absurd h
-given_by call May (step.Take r n hop) h is = absurd h
-given_by call May step.Pump h is = tt
-given_by call May (step.Failed why) h is = absurd h
-given_by call (Lost why) (step.Take r n hop) h is = absurd h
-given_by call (Lost why) step.Pump h is = absurd h
-given_by call (Lost why) (step.Failed of) h is = tt
-
-pub calls_have_stages : CallsHaveStages
-calls_have_stages call new [] same said = ([], record { given = tt; leads = tt; ends = sym same; turns = same })
-calls_have_stages call new (answer ∷ answers) (mid, first, rest) said =
-    let one = stepped answer.now call mid answer.said answer.output first in
-    let later = calls_have_stages mid new answers rest said.1 in
-    let turn : Turn = record { now = answer.now; input = one.0; output = answer.output } in
-    let is_turn : IsTurn call answer turn mid = record { now = refl; input = one.1; output = refl; steps = one.2; logs = one.3 } in (
-      record { turn = turn; call = mid } ∷ later.0,
-      record {
-        given = (given_by call answer.said one.0 one.1 said.0, later.1.given);
-        leads = (one.2, later.1.leads);
-        ends = later.1.ends;
-        turns = (mid, is_turn, later.1.turns);
-      },
-    )
+use Rattle.proxy_config.specs.Setup.{Setup}
+use Rattle.fork_call.specs.Answered.{EachDatagramIsRight, EachSuccessGoesUp, OneFinalAnswerGoesUp, OpenedCallsPayInOrder}
+use Rattle.fork_call.specs.Naming.{DestinationsLeadToTargets, GoesToTarget, IsRequestTo}
 
 -- ---- what opened
 
@@ -97,3 +61,34 @@ opened_success goes setup number m source call before stage later answer opens i
     subst P (sym begins.2)
     (λ is l. goes (opened_of setup number request source uri) setup.rules (targets_of cs) begins.0 before stage later answer (some_targets cs reaches.some) is given l posts)
     invited leads
+
+-- ---- what is sent
+
+same_inside : {X : Type 0} → (o : Option X) (x y : X) → o ≡ Some x → o ≡ Some y → x ≡ y
+same_inside o x y a b = let e : Some x ≡ Some y = sym a ∙ b in cc
+
+goes_to_target : DestinationsLeadToTargets → (setup : Setup) (number : ℕ) (m : MessageText) (source : Hop) (call : Call) (before : List Stage) (d : Datagram)
+    → Opens setup number m source call → IsRightAfter call before d → GoesToTarget setup call d
+goes_to_target leads setup number m source call before d opens right = λ n destination is at.
+    let S : Cause → Type 0 = λ c. IsSentAfter call before d c in
+    let sent = subst S is right.is in
+    let same : sent.0 ≡ destination = same_inside (slice_get (end_of call before).destinations n) sent.0 destination sent.1 (right.targets n destination at) in
+    record {
+      leads = leads setup number m source call n destination opens at;
+      hop = sent.2 ∙ ap (λ (x : Destination). x.hop) same;
+      bytes = sent.3 ∙ ap (λ (x : Destination). spelling (request_to call.opened x n)) same;
+    }
+
+pub opened_datagrams : datagrams.EachDatagramIsRight → DestinationsLeadToTargets → EachDatagramIsRight
+opened_datagrams each leads_to setup number m source call before stage later d opens given leads sends =
+    let request = opens.0 in
+    let uri = opens.2.1 in
+    let reaches = opens.2.3 in
+    let begins = reaches.begins in
+    let cs = candidates_for setup request uri in
+    let P : Call → Type 0 = λ x. Leads x (before ++ stage ∷ later) → IsRightAfter x before d in
+    let right : IsRightAfter call before d =
+    subst P (sym begins.2)
+    (λ l. each (opened_of setup number request source uri) setup.rules (targets_of cs) begins.0 before stage later d (some_targets cs reaches.some) given l sends)
+    leads in
+    record { is = right; names = goes_to_target leads_to setup number m source call before d opens right }

@@ -62,9 +62,9 @@ module _ {P : Type 0} (sends : Sends P) (count : P → ℕ) (now : ℕ) (call : 
       so_far_more mid new mid_port mid_port made sent failed sent failed Silent far last refl (omega arith) (omega arith)
 
   pub cut_before : (mid new : Call) (new_port : P) (made sent failed : ℕ) → SoFar mid new_port made sent failed → made < most_steps
-      → new ≡ mid → IsCutOff sends count now call port new new_port
-  cut_before mid new new_port made sent failed far le same =
-      (far.steps, mid, new_port, omega (arith, le, far.made_is), far.run, far.handed, inl (same, refl))
+      → new ≡ mid → (IsIdle mid now → ⊥) → IsCutOff sends count now call port new new_port
+  cut_before mid new new_port made sent failed far le same due =
+      (far.steps, mid, new_port, omega (arith, le, far.made_is), far.run, far.handed, inl (same, refl, due))
 
   pub cut_untold : (mid new : Call) (mid_port new_port : P) (made sent failed : ℕ) (d : Datagram) → SoFar mid mid_port made sent failed → made < most_steps
       → Pumps mid now (Send d) new → sending.Sends mid (Send d) → SendsOne sends count mid_port d true new_port → IsCutOff sends count now call port new new_port

@@ -1,6 +1,6 @@
 -- A call that is carried keeps what it was opened with.
 use Rattle.fork_call.proofs.Common.{◌≡◌, ◌∙◌, ◌⊎◌, inl, inr, ℕ, Bool, true, false, List, [], ◌∷◌, Option, Some, None, refl, ap, MessageText, Cause, Destination, Branch, Owed, Call, Datagram, answer_of, Action, SendRequest, SendCancel, SendAck}
-use Rattle.fork_call.proofs.Common.{SendAnswer, TickServer, TickClient, TickCancel, FireTimerC, GiveUp, Pumped, Send, Did, Idle, AnswersBy, AnswersWith, SendsAnswer, TicksClientBy, FiresTimerC, Does, Pumps, FaultsBy, FaultsClient}
+use Rattle.fork_call.proofs.Common.{IsIdle, SendAnswer, TickServer, TickClient, TickCancel, FireTimerC, GiveUp, Pumped, Send, Did, Idle, AnswersBy, AnswersWith, SendsAnswer, TicksClientBy, FiresTimerC, Does, Pumps, FaultsBy, FaultsClient}
 use Rattle.fork_call.proofs.Common.{cancel_faulted, Fails, Carrying, Sent, Lost, Silent, Carries, CarriesAll, Sends, SendsOne, IsCutOff, IsRunOut}
 use Rattle.call_model.specs.declared.cause.Cause.TheVariants as cause
 use Rattle.call_model.specs.OpenedRequest.{OpenedRequest}
@@ -91,7 +91,7 @@ module _ {P : Type 0} (sends : Sends P) (count : P → ℕ) (now : ℕ) (call : 
   run_out_keeps_number sent failed idle run = number_keeps call new (steps_keep now call run.steps new run.run)
 
   last_keeps : (mid : Call) (mid_port : P)
-      → ((new ≡ mid) × (new_port ≡ mid_port)) ⊎ ((d : Datagram) × Pumps mid now (Send d) new × sending.Sends mid (Send d) × SendsOne sends count mid_port d true new_port)
+      → ((new ≡ mid) × (new_port ≡ mid_port) × (IsIdle mid now → ⊥)) ⊎ ((d : Datagram) × Pumps mid now (Send d) new × sending.Sends mid (Send d) × SendsOne sends count mid_port d true new_port)
       → new.opened ≡ mid.opened
   last_keeps mid mid_port (inl same) = ap opened_of same.0
   last_keeps mid mid_port (inr lost) = pumps_keep mid now (Send lost.0) new lost.1

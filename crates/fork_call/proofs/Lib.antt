@@ -16,3 +16,4 @@ pub mod Running
 pub mod Answering
 pub mod Naming
 pub mod Marking
+pub mod Refused

@@ -1,7 +1,10 @@
 -- What the datagrams of a call that opened are made of.
-use Rattle.fork_call.proofs.Common.{◌≡◌, ◌∙◌, ◌++◌, ◌∷◌, ℕ, Bool, true, false, List, [], ap, refl, sym, subst, cond, MessageText, Call}
+use Rattle.fork_call.proofs.Common.{◌≡◌, ◌∙◌, ◌++◌, ◌∷◌, ℕ, Bool, true, false, List, [], Option, Some, None, ap, map, refl, slice_get, sym, subst, cond, MessageText, Hop, Call, Destination, Row, rows_of}
 use Rattle.std.specs.Prelude.{filter, not}
+use Rattle.std.specs.Option.{option_and_then, option_map}
 use Rattle.std.proofs.lemmas.Bool.{cond-true}
+use Rattle.std.proofs.lemmas.Option.{slice_get-map}
+use Rattle.fork_model.specs.History.{opening_rows}
 use Rattle.sip_lex.specs.Cut.{behind}
 use Rattle.sip_text.specs.Text.{StartText, Request, Response}
 use Rattle.sip_uri.specs.Uri.{Uri, is_method, params_text, request_uri, requested, user_text}
@@ -13,9 +16,13 @@ use Rattle.sip_build.specs.declared.responses.OwnStatus.TheVariants as own_statu
 use Rattle.sip_build.specs.Generated.{generated_of, timestamp_lines}
 use Rattle.sip_text.specs.Text.{HeaderText}
 use Rattle.call_model.specs.Built.{further_lines, generated}
-use Rattle.call_model.specs.OpenedRequest.{OpenedRequest}
+use Rattle.call_model.specs.OpenedRequest.{OpenedRequest, destination_by}
+use Rattle.call_routing.specs.Destinations.{destination_of_row, destination_to}
+use Rattle.call_routing.specs.Opening.{candidates_for}
 use Rattle.proxy_routing.proofs.laws.OwnRoutes.{kept}
-use Rattle.fork_call.specs.Naming.{OwnAnswersAreToTheRequest, RequestsNameTheirTargets}
+use Rattle.proxy_routing.specs.Admission.{target_uri}
+use Rattle.proxy_routing.specs.Targets.{CandidateTarget, targets_of}
+use Rattle.fork_call.specs.Naming.{DestinationsLeadToTargets, OwnAnswersAreToTheRequest, RequestsNameTheirTargets}
 
 filter_twice : (f : List ℕ → Bool) (xs : List (List ℕ)) → filter f (filter f xs) ≡ filter f xs
 filter_twice f [] = refl
@@ -75,3 +82,71 @@ own_answers law times setup number m source call status opens =
     ∙ ap (λ (ls : List HeaderText). generated_of x status ls) (further_same call.opened status (stripped x own) x (times x own)) in
     let prepared : call.opened.request ≡ _ = ap (λ (x : Call). x.opened.request) begins.2 in
     (pending_call.0, pending_call.1, ap with (prepared ∙ pending_call.2) ∙ kept with step setup pending_call.0)
+
+-- ---- the targets that a call began with
+
+-- the element that a map made of one
+mapped_from : {X Y : Type 0} → (f : X → Option Y) (xs : List X) (n : ℕ) (y : Y) → slice_get (map f xs) n ≡ Some (Some y)
+    → (x : X) × (slice_get xs n ≡ Some x) × (f x ≡ Some y)
+mapped_from f xs n y e = of (slice_get xs n) refl (sym (slice_get-map f xs n) ∙ e)
+  where
+    of : (o : Option X) → slice_get xs n ≡ o → option_map f o ≡ Some (Some y) → (x : X) × (slice_get xs n ≡ Some x) × (f x ≡ Some y)
+    of None at h = absurd cc
+    of (Some x) at h = (x, at, let k : Some (f x) ≡ Some (Some y) = h in cc)
+
+-- the place that a chain of two options came by
+chained_from : {X Y : Type 0} → (f : X → Option Y) (o : Option X) (y : Y) → option_and_then f o ≡ Some y → (x : X) × (o ≡ Some x) × (f x ≡ Some y)
+chained_from f None y e = absurd cc
+chained_from f (Some x) y e = (x, refl, e)
+
+record GoesBy (target : CandidateTarget) (destination : Destination) : Type 0 where
+  pub uri : destination.uri ≡ requested target.uri
+  pub hop : target.hop ≡ Some destination.hop
+  pub longest : destination.longest ≡ target.longest
+
+goes_by : (target : CandidateTarget) (destination : Destination) → destination_to target ≡ Some destination → GoesBy target destination
+goes_by target destination e = of target.hop refl e
+  where
+    of : (o : Option Hop) → target.hop ≡ o → destination_by (requested target.uri) o target.longest ≡ Some destination → GoesBy target destination
+    of None at h = absurd cc
+    of (Some hop) at h =
+        let made : Destination = record { uri = requested target.uri; hop = hop; longest = target.longest } in
+        let k : Some made ≡ Some destination = h in
+        let same : made ≡ destination = cc in
+        record {
+          uri = sym (ap (λ (x : Destination). x.uri) same);
+          hop = at ∙ ap (λ (x : Destination). Some x.hop) same;
+          longest = sym (ap (λ (x : Destination). x.longest) same);
+        }
+
+pub destinations_lead : DestinationsLeadToTargets
+destinations_lead setup number m source call n destination opens at =
+    let request = opens.0 in
+    let asks = opens.2 in
+    let uri = asks.1 in
+    let reaches = asks.3 in
+    let begins = reaches.begins in
+    let cs = candidates_for setup request uri in
+    let of_call : call ≡ _ = begins.2 in
+    let request_is : call.opened.request ≡ request = ap (λ (x : Call). x.opened.request) of_call in
+    let rows : List Row = opening_rows (targets_of cs) in
+    let rows_are : rows_of call ≡ rows = ap rows_of of_call in
+    let there : slice_get (map Some begins.0) n ≡ Some (Some destination) =
+    slice_get-map Some begins.0 n ∙ ap (option_map Some) (sym (ap (λ (x : Call). slice_get x.destinations n) of_call) ∙ at) in
+    let row = mapped_from (destination_of_row cs) rows n destination (sym (ap (λ (ds : List (Option Destination)). slice_get ds n) begins.1) ∙ there) in
+    let target = chained_from destination_to (slice_get cs row.0.place) destination row.2 in
+    let by = goes_by target.0 destination target.2 in
+    record {
+      target = target.0;
+      of_row = record {
+        uri = uri;
+        uri_is = ap target_uri request_is ∙ asks.2;
+        row = row.0;
+        row_is = ap (λ (rs : List Row). slice_get rs n) rows_are ∙ row.1;
+        target_is = ap (λ (x : MessageText). slice_get (candidates_for setup x uri) row.0.place) request_is ∙ target.1;
+      };
+      uri = by.uri;
+      hop = by.hop;
+      longest = by.longest;
+      names = requests_name call.opened destination n target.0.uri by.uri;
+    }

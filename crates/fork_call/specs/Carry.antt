@@ -63,8 +63,8 @@ module _ {P : Type 0} (sends : Sends P) (count : P → ℕ) where
 -- ---- a call and its port
 
 module _ {P : Type 0} (sends : Sends P) (count : P → ℕ) (now : ℕ) (call : Call) (port : P) where
-  -- some steps were made, and then the allocator refused: before the next one, or as the call was to be told of a datagram that
-  -- was lost
+  -- some steps were made, and then the allocator refused: before the next one, which was due, or as the call was to be told of a
+  -- datagram that was lost
   abbrev pub IsCutOff : Call → P → Type 0
   IsCutOff new new_port =
       (steps : List Carrying)
@@ -73,7 +73,7 @@ module _ {P : Type 0} (sends : Sends P) (count : P → ℕ) (now : ℕ) (call : 
       × (length steps < most_steps)
       × CarriesAll now call steps mid
       × HandsAll sends count port steps mid_port
-      × (((new ≡ mid) × (new_port ≡ mid_port))
+      × (((new ≡ mid) × (new_port ≡ mid_port) × (IsIdle mid now → ⊥))
       ⊎ ((d : Datagram) × Pumps mid now (Send d) new × sending.Sends mid (Send d) × SendsOne sends count mid_port d true new_port))
 
   -- so many were sent, and so many lost, each handed to the port once, in the order of the steps; nothing is due any more, or

@@ -7,3 +7,4 @@ pub mod Runs
 pub mod Answered
 pub mod Naming
 pub mod Waits
+pub mod Refused

@@ -1,5 +1,6 @@
 //! Calls.
-ghost use Rattle.std.specs.Prelude.{◌≡◌, ◌↔◌, length, true, IfErr, IfNone, IfOk, IfSome, IsErrOf, IsTrue, OnErr, OnOk};
+ghost use Rattle.std.specs.Prelude.{◌≡◌, ◌≢◌, ◌⊎◌, ◌↔◌, length, true, IfErr, IfNone, IfOk, IfSome, IsErrOf, IsOk, IsTrue, OnErr, OnOk};
+ghost use Rattle.sip_via.specs.TopVia.{top_value};
 ghost use Rattle.call_laws.specs.Sending.{Sends};
 ghost use Rattle.call_model.specs.Due.{IsIdle, IsLeastDue, IsOver, is_due_at};
 ghost use Rattle.call_model.specs.Failed.{Fails};
@@ -7,8 +8,10 @@ ghost use Rattle.call_model.specs.Pump.{Pumps};
 ghost use Rattle.call_model.specs.SeenStep.{pumped};
 ghost use Rattle.call_model.specs.SeenTaken.{seen_taken};
 ghost use Rattle.call_model.specs.Take as take;
-ghost use Rattle.call_routing.specs.Matching.{BelongsToNone};
+ghost use Rattle.call_routing.specs.Kinds.{is_response};
+ghost use Rattle.call_routing.specs.Matching.{BelongsTo, BelongsToNone, IsReadBranch};
 ghost use Rattle.call_routing.specs.Opening.{IsOpenable, Opens, Refuses};
+ghost use Rattle.call_routing.specs.SeenMatchedTransaction.{seen_recipient};
 ghost use Rattle.fork_call.specs.inner.SeenAction.{seen_action};
 ghost use Rattle.fork_call.specs.Takes.{Takes};
 ghost use Rattle.fork_call.specs.Waits.{waits_until};
@@ -25,9 +28,9 @@ use crate::timing::time_step;
 use call_branch::status_of;
 use call_laws::{calls_send_right, what_is_sent_is_right};
 use call_model::{Cause, Step, Taken, calls_stay_sound};
-use call_routing::match_transaction;
+use call_routing::{MatchedTransaction, Memory, OpeningRequest, match_response, match_transaction};
 use call_state::CallState;
-use call_table::Numbered;
+use call_table::{Numbered, Pending};
 use fork_book::Book;
 use fork_model::{
     events_make_progress, new_rows_are_contacts, others_stay_open, positions_are_bounded,
@@ -37,6 +40,7 @@ use proxy_config::Setup;
 use proxy_routing::RequestRejection;
 use sip_text::Message;
 use sip_uri::Hop;
+use sip_via::{BranchName, Own};
 use std::alloc::{AllocError, Allocator, Global};
 use std::marker::Model;
 
@@ -104,9 +108,15 @@ impl<A: Allocator + Clone> Call<A> {
         ensures opened { IfOk result (Opens setup.now number request source) }
         ensures refused { IfErr result (Refuses setup.now request source) }
     {
-        match PendingCall::new(alloc, heap, setup, request, source, now) {
+        let opening = OpeningRequest {
+            memory: Memory { alloc, heap },
+            request,
+            source,
+            now,
+        };
+        match PendingCall::new(setup, opening) {
             Ok(pending_call) => Ok(pending_call.numbered(number)),
-            Err(fault) => Err(fault),
+            Err(unrouted) => Err(unrouted.fault()),
         }
     }
 
@@ -150,22 +160,20 @@ impl<A: Allocator + Clone> Call<A> {
         Some(Action::on_row(&self.state, n as u16, now))
     }
 
-    /// Takes a message that came from `source`, by the one transaction that the message belongs to (RFC 3261 sections 16.7,
-    /// 17.1.3 and 17.2.3).
-    ///
-    /// # Errors
-    ///
-    /// `Stray` where the message belongs to none, `Full` where the book takes no more events that change nothing; else only
-    /// where the allocator refuses. The call is then as it was.
-    pub fn take(&mut self, message: Message<A>, source: Hop, now: u64) -> Result<Taken, TakeFault>
+    /// Takes a message that came from `source`, by this transaction, which the message belongs to.
+    fn take_by(
+        &mut self,
+        to: MatchedTransaction,
+        message: Message<A>,
+        source: Hop,
+        now: u64,
+    ) -> Result<Taken, TakeFault>
+        requires belongs { BelongsTo self.old message (seen_recipient to) }
         ensures step { IfOk result (λ taken. Takes self.old now message source (seen_taken taken) self.new) }
-        ensures stray { IsErrOf result TakeFault.Stray → BelongsToNone self.old message }
         ensures full { IsErrOf result TakeFault.Full → Takes self.old now message source take.Full self.old }
+        ensures refused { IfErr result (λ fault. fault ≢ TakeFault.Stray) }
         ensures err { OnErr result (self.new ≡ self.old) }
     {
-        let Some(to) = match_transaction(&self.state, &message) else {
-            return Err(TakeFault::Stray);
-        };
         let at = self.posted();
         // The next calls run nothing: each shows the prover a fact that holds of every call, message or table.
         self.state.is_sized();
@@ -184,14 +192,61 @@ impl<A: Allocator + Clone> Call<A> {
         taken
     }
 
+    /// Takes a message that came from `source`, by the one transaction that the message belongs to (RFC 3261 sections 16.7,
+    /// 17.1.3 and 17.2.3).
+    ///
+    /// # Errors
+    ///
+    /// `Stray` where the message belongs to none; where it belongs to one `Full` where the book takes no more events that
+    /// change nothing, else only where the allocator refuses. The call is then as it was.
+    pub fn take(&mut self, message: Message<A>, source: Hop, now: u64) -> Result<Taken, TakeFault>
+        ensures step { IfOk result (λ taken. Takes self.old now message source (seen_taken taken) self.new) }
+        ensures stray { IsErrOf result TakeFault.Stray → BelongsToNone self.old message }
+        ensures unmatched { BelongsToNone self.old message → IsErrOf result TakeFault.Stray }
+        ensures full { IsErrOf result TakeFault.Full → Takes self.old now message source take.Full self.old }
+        ensures err { OnErr result (self.new ≡ self.old) }
+    {
+        let Some(to) = match_transaction(&self.state, &message) else {
+            return Err(TakeFault::Stray);
+        };
+        self.take_by(to, message, source, now)
+    }
+
+    /// The same of a response, in whose top Via value this branch of the proxy was read: that value is not read again.
+    ///
+    /// # Errors
+    ///
+    /// Those of [`Call::take`].
+    pub fn take_response(
+        &mut self,
+        response: Message<A>,
+        branch: BranchName,
+        source: Hop,
+        now: u64,
+    ) -> Result<Taken, TakeFault>
+        requires response { is_response response.start ≡ true }
+        requires named { IsReadBranch self.old.opened.own (top_value response) branch }
+        ensures step { IfOk result (λ taken. Takes self.old now response source (seen_taken taken) self.new) }
+        ensures stray { IsErrOf result TakeFault.Stray → BelongsToNone self.old response }
+        ensures unmatched { BelongsToNone self.old response → IsErrOf result TakeFault.Stray }
+        ensures full { IsErrOf result TakeFault.Full → Takes self.old now response source take.Full self.old }
+        ensures err { OnErr result (self.new ≡ self.old) }
+    {
+        let Some(to) = match_response(&self.state, &response, branch) else {
+            return Err(TakeFault::Stray);
+        };
+        self.take_by(to, response, source, now)
+    }
+
     /// Does one thing that is due; where nothing is, nothing changes. What the call sends is what the cause of the datagram
     /// says, and goes where the cause says.
     ///
     /// # Errors
     ///
-    /// Only where the allocator refuses; then the call is as it was.
+    /// Only where something is due and the allocator refuses; then the call is as it was.
     pub fn pump(&mut self, now: u64) -> Result<Step<A>, AllocError>
         ensures step { IfOk result (λ did. Pumps self.old now (pumped did) self.new) }
+        ensures idle { IsIdle self.old now → IsOk result }
         ensures right { IfOk result (λ did. Sends self.old (pumped did)) }
         ensures err { OnErr result (self.new ≡ self.old) }
     {
@@ -305,6 +360,13 @@ impl<A: Allocator + Clone> Call<A> {
         } else {
             None
         }
+    }
+
+    /// The address of the proxy that the call was opened at: the Via values of its branches have it.
+    pub fn own(&self) -> Own
+        ensures { result ≡ self.now.opened.own }
+    {
+        self.state.opened().own()
     }
 }
 

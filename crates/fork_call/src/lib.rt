@@ -16,13 +16,14 @@ mod timing;
 
 pub use call::Call;
 pub use call_model::{Cause, Datagram, Step, Taken};
+pub use call_routing::{Memory, OpeningRequest};
 pub use fault::TakeFault;
 pub use fork_book::Book;
 pub use law::{
-    calls_are_runs, calls_have_stages, datagrams_go_back_to_the_request, each_success_goes_up,
-    one_final_answer_goes_up, opened_calls_pay_in_order,
+    calls_have_stages, datagrams_go_back_to_the_request, each_datagram_is_right,
+    each_success_goes_up, one_fault_holds, one_final_answer_goes_up, opened_calls_pay_in_order,
 };
 pub use pending_call::PendingCall;
 pub use port::{Carried, Port, carry};
 pub use proxy_config::{Setup, SetupFault};
-pub use proxy_routing::RequestRejection;
+pub use proxy_routing::{RequestRejection, Unrouted};

@@ -1,18 +1,20 @@
 //! Calls that have no number yet.
 ghost use Rattle.std.specs.Prelude.{◌≡◌, ℕ, IfErr, IfOk};
 ghost use Rattle.call_model.specs.Call.{numbered};
-ghost use Rattle.call_routing.specs.Opening.{IsOpenable, Opens, Refuses};
+ghost use Rattle.call_routing.specs.Opening.{IsOpenable, IsRefusedFor, Opens};
+ghost use Rattle.proxy_routing.specs.Unrouted.{IfRejected};
 
 use crate::call::Call;
 use crate::schedule::BranchTimers;
 use crate::timing::schedule_of;
 use call_laws::calls_send_right;
 use call_model::calls_stay_sound;
+use call_routing::OpeningRequest;
 use call_state::CallState;
+use call_table::Pending;
 use proxy_config::Setup;
-use proxy_routing::RequestRejection;
+use proxy_routing::Unrouted;
 use sip_text::Message;
-use sip_uri::Hop;
 use std::alloc::{Allocator, Global};
 use std::marker::Model;
 
@@ -38,33 +40,27 @@ impl<A: Allocator + Clone> Model for PendingCall<A> {
 }
 
 impl<A: Allocator + Clone> PendingCall<A> {
-    /// What a request from `source` opens, as [`Call::open`] says it.
+    /// What a request opens, as [`Call::open`] says it.
     ///
     /// # Errors
     ///
-    /// The first of those of [`RequestRejection`] that holds; `NoMemory` wherever the allocator refuses.
-    pub fn new(
-        alloc: A,
-        heap: Global,
-        setup: &Setup<A>,
-        request: Message<A>,
-        source: Hop,
-        now: u64,
-    ) -> Result<PendingCall<A>, RequestRejection>
-        requires { IsOpenable request.start }
-        ensures opened { IfOk result (λ pending_call. (number : ℕ) → Opens setup.now number request source (numbered number pending_call)) }
-        ensures refused { IfErr result (Refuses setup.now request source) }
+    /// The first of those of [`RequestRejection`](proxy_routing::RequestRejection) that holds, with the request as far as it was
+    /// prepared; `NoMemory` wherever the allocator refuses.
+    pub fn new(setup: &Setup<A>, opening: OpeningRequest<A>) -> Result<PendingCall<A>, Unrouted<A>>
+        requires { IsOpenable opening.request.start }
+        ensures opened { IfOk result (λ pending_call. (number : ℕ) → Opens setup.now number opening.request opening.source (numbered number pending_call)) }
+        ensures refused { IfErr result (IfRejected (IsRefusedFor setup.now opening.request opening.source)) }
     {
         calls_stay_sound();
         calls_send_right();
-        let own = alloc.clone()?;
-        let rest = alloc.clone()?;
-        let state = match call_routing::open(alloc, heap, setup, 0, request, source, now) {
+        let own = opening.memory.alloc.clone()?;
+        let rest = opening.memory.alloc.clone()?;
+        let state = match call_routing::open(setup, opening) {
             Ok(state) => state,
-            Err(fault) => return Err(fault),
+            Err(unrouted) => return Err(unrouted),
         };
         let Ok(schedule) = schedule_of(rest, &state) else {
-            return Err(RequestRejection::NoMemory);
+            return Err(Unrouted::NoMemory);
         };
         Ok(PendingCall {
             state,
@@ -73,10 +69,22 @@ impl<A: Allocator + Clone> PendingCall<A> {
         })
     }
 
-    /// The call under this number.
-    pub fn numbered(self, number: u64) -> Call<A>
-        ensures { result ≡ numbered number self }
+    /// The request that would have opened the call, as far as it was prepared (RFC 3261 sections 16.4 and 18.2.1).
+    pub fn into_request(self) -> Message<A>
+        ensures { result ≡ self.opened.request }
     {
+        self.state.into_request()
+    }
+}
+
+impl<A: Allocator + Clone> Pending<Call<A>> for PendingCall<A> {
+    ghost use Rattle.std.specs.Prelude.{◌≡◌};
+    ghost use Rattle.call_model.specs.Call.{numbered};
+
+    ghost becomes = { λ pending_call number call. call ≡ numbered number pending_call };
+
+    /// The call under this number.
+    fn numbered(self, number: u64) -> Call<A> {
         let mut state = self.state;
         state.set_number(number);
         Call::of(state, self.schedule, self.alloc)

@@ -2,11 +2,11 @@
 ghost use Rattle.std.specs.Prelude.{◌≡◌, ◌≢◌, [], IfOk, Some, true};
 ghost use Rattle.std.specs.List.{list_all};
 ghost use Rattle.sip_text.specs.Message.{is_header};
+ghost use Rattle.sip_text.specs.Seen.{view_lines};
 ghost use Rattle.sip_text.specs.Text.{MessageText, spelling};
 ghost use Rattle.sip_via.specs.Received.{reply_of};
 ghost use Rattle.sip_via.specs.TopVia.{top_value};
 ghost use Rattle.sip_via.specs.ViaParts.{via_of};
-ghost use Rattle.sip_build.specs.Further.{view_lines};
 ghost use Rattle.sip_build.specs.Generated.{code_of, generated_of};
 ghost use Rattle.call_model.specs.SeenDatagram.{seen};
 ghost use Rattle.proxy_config.specs.Setup.{Setup};
@@ -20,9 +20,9 @@ ghost use Rattle.proxy_dispatch.specs.inner.Sent.{seen_sent};
 use crate::datagrams::Handled;
 use crate::outcome::Outcome;
 use fork_call::{Cause, Datagram, RequestRejection};
-use sip_build::{FurtherLine, OwnStatus, stripping_keeps_answers, write_generated};
+use sip_build::{OwnStatus, stripping_keeps_answers, write_generated};
 use sip_route::stripping_keeps_the_rest;
-use sip_text::Message;
+use sip_text::{HeaderLine, Message};
 use sip_uri::Hop;
 use sip_via::{ViaFault, add_received, reply_hop_of};
 use std::alloc::{AllocError, Allocator};
@@ -32,7 +32,7 @@ fn answer_text<A: Allocator>(
     alloc: A,
     request: &Message<A>,
     status: OwnStatus,
-    further: &[FurtherLine<'_>],
+    further: &[HeaderLine<'_>],
 ) -> Result<Vec<u8, A>, AllocError>
     requires { list_all is_header (view_lines further.now) ≡ true }
     ensures { IfOk result (λ text. text.items ≡ spelling (generated_of request.now status (view_lines further.now))) }
@@ -47,7 +47,7 @@ fn answer_to<A: Allocator>(
     alloc: A,
     request: &Message<A>,
     status: OwnStatus,
-    further: &[FurtherLine<'_>],
+    further: &[HeaderLine<'_>],
     to: Hop,
 ) -> Result<Datagram<A>, AllocError>
     requires { list_all is_header (view_lines further.now) ≡ true }
@@ -69,7 +69,7 @@ fn answer_of<A: Allocator + Clone>(
     request: Message<A>,
     source: Hop,
     status: OwnStatus,
-    further: &[FurtherLine<'_>],
+    further: &[HeaderLine<'_>],
 ) -> Result<Datagram<A>, AllocError>
     requires { list_all is_header (view_lines further.now) ≡ true }
     ensures { IfOk result (λ datagram. seen datagram ≡ answer_of request source status (view_lines further.now)) }
@@ -114,11 +114,11 @@ pub(crate) fn told<A: Allocator + Clone>(
     ensures sent { IfOk result (λ outcome. seen_sent outcome.datagram ≡ Some (capabilities_to request source)) }
 {
     let capabilities = [
-        FurtherLine {
+        HeaderLine {
             name: b"Allow",
             value: b"INVITE, ACK, CANCEL, OPTIONS, BYE",
         },
-        FurtherLine {
+        HeaderLine {
             name: b"Accept",
             value: b"application/sdp",
         },
@@ -137,7 +137,7 @@ pub(crate) fn turned_away<A: Allocator + Clone>(
     ensures handled { IfOk result (λ outcome. outcome.handled ≡ handled.TurnedAway) }
     ensures sent { IfOk result (λ outcome. seen_sent outcome.datagram ≡ Some (unavailable_to request source)) }
 {
-    let retry = [FurtherLine {
+    let retry = [HeaderLine {
         name: b"Retry-After",
         value: b"10",
     }];

@@ -39,6 +39,8 @@ mod programs;
 #[cfg(test)]
 mod reads;
 #[cfg(test)]
+mod redirecting;
+#[cfg(test)]
 mod schedules;
 #[cfg(test)]
 mod shelves;

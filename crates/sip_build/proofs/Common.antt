@@ -24,7 +24,7 @@ pub use Rattle.sip_text.proofs.laws.Good.{and_both}
 pub use Rattle.sip_text.specs.Fields.{cseq_in, cseq_of_cut, cseq_with, fits_start}
 pub use Rattle.sip_text.specs.Message.{is_value}
 pub use Rattle.sip_text.specs.Name.{first_of, first_value, same_name, values_of}
-pub use Rattle.sip_text.specs.Seen.{view, views}
+pub use Rattle.sip_text.specs.Seen.{view_line, view_lines, views}
 pub use Rattle.sip_text.specs.Text.{HeaderText, MessageText, Request, Response, StartText, header_text, pieces_text, saturated, start_line}
 pub use Rattle.sip_uri.specs.Uri.{Uri, request_uri}
 pub use Rattle.sip_via.proofs.laws.Places.{replaced-split}
@@ -43,7 +43,6 @@ pub use Rattle.sip_via.specs.declared.branch.BranchName.{BranchName}
 pub use Rattle.sip_via.specs.declared.own.Own.{Own}
 pub use Rattle.sip_build.specs.Exchanged.{exchanged, is_other}
 pub use Rattle.sip_build.specs.Forwarding.{forwarded, hops_lowered, is_request, record_route_lines, to_target}
-pub use Rattle.sip_build.specs.Further.{view_line, view_lines}
 pub use Rattle.sip_build.specs.Generated.{code_of, generated_of, reason_of, timestamp_lines, to_lines, unsupported_lines}
 pub use Rattle.sip_build.specs.Requests.{along, along_to, to_value}
 pub use Rattle.sip_build.specs.SeenKept.{seen_kept, texts}

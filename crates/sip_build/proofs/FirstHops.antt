@@ -1,5 +1,5 @@
 -- The value of the first header line of a name, by the place of that line.
-use Rattle.sip_build.proofs.Common.{◌≡◌, ◌∙◌, ℕ, suc, ◌+◌, List, [], ◌∷◌, ◌++◌, drop, Some, None, refl, sym, ap, arith, inl, inr, drop-map, decimal, codes, cases_Bool, cond-true, cond-false, first_of, first_value, same_name, view, views, HeaderText}
+use Rattle.sip_build.proofs.Common.{◌≡◌, ◌∙◌, ℕ, suc, ◌+◌, List, [], ◌∷◌, ◌++◌, drop, Some, None, refl, sym, ap, arith, inl, inr, decimal, codes, cases_Bool, cond-true, cond-false, first_of, first_value, same_name, HeaderText}
 use Rattle.sip_build.proofs.Common.{place_of, decimal_digit, decimal_step}
 use Rattle.sip_text.specs.Name.{values_of}
 
@@ -39,15 +39,12 @@ first-some name (h ∷ hs) after x e =
           ∙ first-some name hs after x (sym (ap (λ m. drop m (h ∷ hs)) at) ∙ e)
     ]
 
-behind : (hs back : List HeaderText) (place n : ℕ) → n ≡ place → back ≡ drop n hs → drop place (views hs) ≡ views back
-behind hs back place n at b = drop-map view place hs ∙ ap (λ (xs : List HeaderText). views xs) (sym (b ∙ ap (λ k. drop k hs) at))
-
 -- by the header lines from that place on
-pub first-nowhere : (name : List ℕ) (hs : List HeaderText) (n : ℕ) → n ≡ place_of name (views hs) → [] ≡ drop n hs → first_value name (views hs) ≡ None
-first-nowhere name hs n at b = first-none name (views hs) (behind hs [] (place_of name (views hs)) n at b)
+pub first-nowhere : (name : List ℕ) (hs : List HeaderText) (n : ℕ) → n ≡ place_of name hs → [] ≡ drop n hs → first_value name hs ≡ None
+first-nowhere name hs n at b = first-none name hs (ap (λ k. drop k hs) (sym at) ∙ sym b)
 
-pub first-there : (name : List ℕ) (hs after : List HeaderText) (x : HeaderText) (n : ℕ) → n ≡ place_of name (views hs) → x ∷ after ≡ drop n hs → first_value name (views hs) ≡ Some (view x).value
-first-there name hs after x n at b = first-some name (views hs) (views after) (view x) (behind hs (x ∷ after) (place_of name (views hs)) n at b)
+pub first-there : (name : List ℕ) (hs after : List HeaderText) (x : HeaderText) (n : ℕ) → n ≡ place_of name hs → x ∷ after ≡ drop n hs → first_value name hs ≡ Some x.value
+first-there name hs after x n at b = first-some name hs after x (ap (λ k. drop k hs) (sym at) ∙ sym b)
 
 pub seventy-text : decimal 70 ≡ codes "70"
 seventy-text = decimal_step 70 (omega arith) (omega arith) ∙ ap (λ (x : List ℕ). x ++ (48 ∷ [])) (decimal_digit 7 (omega arith))

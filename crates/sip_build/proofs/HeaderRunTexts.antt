@@ -7,7 +7,7 @@ use Rattle.std.specs.Prelude.{IsOk}
 use Rattle.fork_model.specs.Table as table
 use Rattle.sip_text.specs.Name.{values_of}
 use Rattle.sip_text.specs.Text.{spelling}
-use Rattle.sip_build.specs.declared.further.FurtherLine.{FurtherLine}
+use Rattle.sip_text.specs.declared.parts.HeaderLine.{HeaderLine}
 use Rattle.sip_build.specs.declared.runs.HeaderRun.{HeaderRun}
 use Rattle.sip_build.specs.declared.made_text.Front.{Front}
 use Rattle.sip_build.specs.inner.HeaderRuns.{all_lines, made_of}
@@ -25,7 +25,7 @@ contacts-text (t ∷ ts) = ap (λ (ys : List ℕ). header_text (line (codes "Con
 pub challenges-text : (cs : List table.Challenge) → flat_map (λ c. header_text (challenge_line c)) cs ≡ lines_text (map challenge_line cs)
 challenges-text cs = sym (flat_map-map header_text challenge_line cs)
 
-pub further-text : (fs : List FurtherLine) → flat_map (λ f. header_text (view_line f)) fs ≡ lines_text (view_lines fs)
+pub further-text : (fs : List HeaderLine) → flat_map (λ f. header_text (view_line f)) fs ≡ lines_text (view_lines fs)
 further-text fs = sym (flat_map-map header_text view_line fs)
 
 -- the spelling of a message whose header lines come in runs
@@ -39,15 +39,15 @@ ok-as r old new t s h e = subst (λ (x : List ℕ). OnOk r (new ≡ old ++ x)) e
 
 -- ---- what is picked of header lines
 
-pub named-lines : (name : List ℕ) (hs : List HeaderText) → flat_map (λ h. under h (if same_name name h.name then Some h.name else None)) hs ≡ lines_among name hs
+pub named-lines : (name : List ℕ) (hs : List HeaderText) → flat_map (λ h. under h.value (if same_name name h.name then Some h.name else None)) hs ≡ lines_among name hs
 named-lines name [] = refl
 named-lines name (h ∷ hs) = grind (arith, named-lines name hs)
 
-pub other-lines : (name : List ℕ) (hs : List HeaderText) → flat_map (λ h. under h (if same_name name h.name then None else Some h.name)) hs ≡ filter (is_other name) hs
+pub other-lines : (name : List ℕ) (hs : List HeaderText) → flat_map (λ h. under h.value (if same_name name h.name then None else Some h.name)) hs ≡ filter (is_other name) hs
 other-lines name [] = refl
 other-lines name (h ∷ hs) = grind (arith, other-lines name hs)
 
-pub renamed-lines : (name other : List ℕ) (hs : List HeaderText) → flat_map (λ h. under h (if same_name name h.name then Some other else None)) hs ≡ map (line other) (values_of name hs)
+pub renamed-lines : (name other : List ℕ) (hs : List HeaderText) → flat_map (λ h. under h.value (if same_name name h.name then Some other else None)) hs ≡ map (line other) (values_of name hs)
 unfolding values_of
 renamed-lines name other [] = refl
 renamed-lines name other (h ∷ hs) = grind (arith, common_steps, cases_Bool (same_name name h.name), renamed-lines name other hs, cond-true, cond-false)

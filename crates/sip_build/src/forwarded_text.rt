@@ -19,7 +19,7 @@ use crate::runs::{HeaderRun, run_if_any};
 use crate::to_target::append_to_target;
 use itoa::Buffer;
 use sip_lex::read_number;
-use sip_text::{Header, Message, Start};
+use sip_text::{HeaderLines, Message, StartLine};
 use sip_uri::SipUri;
 use sip_via::{BranchName, Own, place_of};
 use std::alloc::{AllocError, Allocator};
@@ -32,8 +32,8 @@ fn method_of<A: Allocator>(message: &Message<A>) -> &[u8]
     ensures { (u : Uri) → to_target message.now.start u ≡ Request result.now (request_uri u) }
 {
     match message.start() {
-        Start::Request { method, .. } => method,
-        Start::Response { .. } => unreachable!(),
+        StartLine::Request { method, .. } => method,
+        StartLine::Response { .. } => unreachable!(),
     }
 }
 
@@ -46,16 +46,16 @@ fn one_fewer(value: &[u8]) -> u64
 }
 
 /// The value of the header line at the place of the first Max-Forwards line, if there is one.
-fn value_at<A: Allocator>(headers: &[Header<A>], place: usize) -> Option<&[u8]>
-    requires place { place ≡ place_of hops_name (views headers.now) }
-    requires within { place ≤ length headers.now }
-    ensures { option_copied result ≡ first_value hops_name (views headers.now) }
+fn value_at(headers: HeaderLines<'_>, place: usize) -> Option<&[u8]>
+    requires place { place ≡ place_of hops_name (views headers) }
+    requires within { place ≤ length (views headers) }
+    ensures { option_copied result ≡ first_value hops_name (views headers.entry) }
 {
     let (_, back) = headers.split_at(place);
-    let Some((header, _)) = back.split_first() else {
-        return None;
-    };
-    Some(header.value())
+    match back.split_first() {
+        None => None,
+        Some((line, _)) => Some(line.value),
+    }
 }
 
 /// The hops that a request goes on with: one fewer than its first Max-Forwards value allows, or the seventy that
@@ -73,25 +73,25 @@ fn hops_left(first: Option<&[u8]>) -> u64
 /// A Record-Route line of that value, if there is one, and the header lines with these hops in the first Max-Forwards line, or in
 /// a line before them where there is none.
 fn lowered_runs<'a, A: Allocator>(
-    headers: &'a [Header<A>],
+    headers: HeaderLines<'a>,
     place: usize,
     hops: &'a [u8],
     recorded: Option<&'a [u8]>,
 ) -> [HeaderRun<'a, A>; 4]
-    requires place { place ≡ place_of hops_name (views headers.now) }
-    requires within { place ≤ length headers.now }
-    requires hops { hops.now ≡ decimal (hops_left (first_value hops_name (views headers.now))) }
+    requires place { place ≡ place_of hops_name (views headers) }
+    requires within { place ≤ length (views headers) }
+    requires hops { hops.now ≡ decimal (hops_left (first_value hops_name (views headers))) }
     ensures { all_lines result
-        ≡ record_route_lines (option_copied recorded.entry) ++ hops_lowered (views headers.now) (first_value hops_name (views headers.now)) }
+        ≡ record_route_lines (option_copied recorded.entry) ++ hops_lowered (views headers.entry) (first_value hops_name (views headers.entry)) }
 {
     let record_route = run_if_any(b"Record-Route", recorded);
     let (front, back) = headers.split_at(place);
     let Some((header, after)) = back.split_first() else {
         let seventy = HeaderRun::Line(b"Max-Forwards", hops);
         let headers = HeaderRun::Kept(headers);
-        return [record_route, seventy, headers, HeaderRun::Kept(&[])];
+        return [record_route, seventy, headers, HeaderRun::NoLine];
     };
-    let lowered = HeaderRun::Line(header.name(), hops);
+    let lowered = HeaderRun::Line(header.name, hops);
     let front = HeaderRun::Kept(front);
     [record_route, front, lowered, HeaderRun::Kept(after)]
 }

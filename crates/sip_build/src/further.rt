@@ -3,46 +3,23 @@
 ghost use Rattle.std.specs.Prelude.{◌≡◌, true, IfOk};
 ghost use Rattle.std.specs.List.{list_all};
 ghost use Rattle.sip_text.specs.Message.{is_header};
-ghost use Rattle.sip_text.specs.Seen.{view};
-ghost use Rattle.sip_build.specs.Further.{view_if_any, view_line, view_lines};
+ghost use Rattle.sip_text.specs.Seen.{view_lines};
+ghost use Rattle.sip_build.specs.Further.{view_if_any};
 ghost use Rattle.sip_build.specs.Generated.{timestamp_lines};
 ghost use Rattle.sip_build.specs.Requests.{reason_lines};
 
-use sip_text::{Header, Message};
+use sip_text::{HeaderLine, Message};
 use sip_via::{first_named, split_named};
 use std::alloc::{AllocError, Allocator};
 
-/// A header line for a message that is written (RFC 3261 section 7.3): of another message, as a Timestamp or a Reason, or made for
-/// it, as a challenge or a Retry-After.
-#[derive(Clone, Copy)]
-pub struct FurtherLine<'a> {
-    /// The name of the field.
-    pub name: &'a [u8],
-    /// Its value, without space at the ends.
-    pub value: &'a [u8],
-}
-
-/// A header line of another message.
-fn line_of<A: Allocator>(header: &Header<A>) -> FurtherLine<'_>
-    ensures { view_line result ≡ view header.now }
-{
-    FurtherLine {
-        name: header.name(),
-        value: header.value(),
-    }
-}
-
 /// The first Timestamp line of a request as it stands, which a 100 to the request takes (RFC 3261 section 8.2.6.1); `None` where it
 /// has none.
-pub fn first_timestamp<A: Allocator>(message: &Message<A>) -> Option<FurtherLine<'_>>
+pub fn first_timestamp<A: Allocator>(message: &Message<A>) -> Option<HeaderLine<'_>>
     ensures exact { view_if_any result ≡ timestamp_lines message.now }
     ensures good { list_all is_header (view_if_any result) ≡ true }
 {
     message.is_message();
-    match first_named(message, b"timestamp") {
-        None => None,
-        Some(header) => Some(line_of(header)),
-    }
+    first_named(message, b"timestamp")
 }
 
 /// The Reason lines of a message as they stand, in order: those of a CANCEL, for the CANCELs that it brings about (RFC 3326).
@@ -53,15 +30,15 @@ pub fn first_timestamp<A: Allocator>(message: &Message<A>) -> Option<FurtherLine
 pub fn reason_lines<A: Allocator, B: Allocator>(
     alloc: B,
     message: &Message<A>,
-) -> Result<Vec<FurtherLine<'_>, B>, AllocError>
+) -> Result<Vec<HeaderLine<'_>, B>, AllocError>
     ensures exact { IfOk result (λ lines. view_lines lines.items ≡ reason_lines message.now) }
     ensures good { list_all is_header (reason_lines message.now) ≡ true }
 {
     message.is_message();
     let mut lines = Vec::new(alloc);
     let mut rest = message.headers();
-    while let Some((header, after)) = split_named(rest, b"reason") {
-        lines.push(line_of(header))?;
+    while let Some((line, after)) = split_named(rest, b"reason") {
+        lines.push(line)?;
         rest = after;
     }
     Ok(lines)

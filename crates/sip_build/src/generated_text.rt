@@ -3,19 +3,18 @@
 ghost use Rattle.std.specs.Prelude.{◌≡◌, ◌+◌, ◌++◌, ◌≤◌, codes, length, map, true, IsOk, OnErr, OnOk, vec_capacity, vec_len};
 ghost use Rattle.std.specs.List.{list_all};
 ghost use Rattle.sip_text.specs.Message.{is_header};
+ghost use Rattle.sip_text.specs.Seen.{view_lines};
 ghost use Rattle.sip_text.specs.Text.{spelling};
 ghost use Rattle.sip_via.specs.Lines.{first_line};
-ghost use Rattle.sip_build.specs.Further.{view_lines};
 ghost use Rattle.sip_build.specs.Generated.{generated_of, gets_tag, tagged, to_lines, unsupported_lines};
 ghost use Rattle.sip_build.specs.inner.HeaderRuns.{all_lines, lines_of};
 ghost use Rattle.sip_build.specs.OwnTag.{own_tag};
 
-use crate::further::FurtherLine;
 use crate::made_text::{Front, append_made};
 use crate::responses::{OwnStatus, gets_tag};
 use crate::runs::{HeaderRun, Pick};
 use crate::tag::own_tag;
-use sip_text::Message;
+use sip_text::{HeaderLine, Message};
 use sip_via::first_named;
 use std::alloc::{AllocError, Allocator};
 
@@ -24,8 +23,8 @@ fn first_run<'a, A: Allocator>(message: &'a Message<A>, name: &[u8]) -> HeaderRu
     ensures { lines_of result ≡ first_line name.now message.now }
 {
     match first_named(message, name) {
-        None => HeaderRun::Kept(&[]),
-        Some(header) => HeaderRun::Line(header.name(), header.value()),
+        None => HeaderRun::NoLine,
+        Some(line) => HeaderRun::Line(line.name, line.value),
     }
 }
 
@@ -34,8 +33,8 @@ fn tagged_run<'a, A: Allocator>(message: &'a Message<A>, tag: &'a [u8]) -> Heade
     ensures { lines_of result ≡ map (tagged tag.now) (first_line (codes "to") message.now) }
 {
     match first_named(message, b"to") {
-        None => HeaderRun::Kept(&[]),
-        Some(header) => HeaderRun::Joined(header.name(), header.value(), b";tag=", tag),
+        None => HeaderRun::NoLine,
+        Some(line) => HeaderRun::Joined(line.name, line.value, b";tag=", tag),
     }
 }
 
@@ -75,7 +74,7 @@ fn unsupported_run<A: Allocator>(message: &Message<A>, status: OwnStatus) -> Hea
             message.headers(),
             Pick::Renamed(b"proxy-require", b"Unsupported"),
         ),
-        _ => HeaderRun::Kept(&[]),
+        _ => HeaderRun::NoLine,
     }
 }
 
@@ -84,7 +83,7 @@ fn generated_runs<'a, A: Allocator>(
     message: &'a Message<A>,
     status: OwnStatus,
     tag: &'a [u8],
-    further: &'a [FurtherLine<'a>],
+    further: &'a [HeaderLine<'a>],
 ) -> [HeaderRun<'a, A>; 8]
     requires { gets_tag status message.now ≡ true → tag.now ≡ own_tag message.now }
     ensures { all_lines result ≡ (generated_of message.now status (view_lines further.now)).headers }
@@ -113,7 +112,7 @@ fn generated_runs<'a, A: Allocator>(
 pub fn write_generated<A: Allocator, B: Allocator>(
     message: &Message<A>,
     status: OwnStatus,
-    further: &[FurtherLine<'_>],
+    further: &[HeaderLine<'_>],
     out: &mut Vec<u8, B>,
 ) -> Result<(), AllocError>
     requires { list_all is_header (view_lines further.now) ≡ true }

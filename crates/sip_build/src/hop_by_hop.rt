@@ -6,7 +6,7 @@ ghost use Rattle.std.specs.Option.{option_copied};
 ghost use Rattle.sip_lex.specs.Number.{begins_with_zero};
 ghost use Rattle.sip_text.specs.Message.{is_header};
 ghost use Rattle.sip_text.specs.Name.{first_value, values_of};
-ghost use Rattle.sip_text.specs.Seen.{views};
+ghost use Rattle.sip_text.specs.Seen.{view_lines, views};
 ghost use Rattle.sip_text.specs.Text.{spelling};
 ghost use Rattle.sip_uri.specs.Uri.{Uri};
 ghost use Rattle.sip_via.specs.declared.branch.BranchName.{BranchName};
@@ -16,17 +16,15 @@ ghost use Rattle.sip_via.specs.Edits.{line};
 ghost use Rattle.sip_via.specs.OwnVia.{IsOwn, own_via};
 ghost use Rattle.sip_route.specs.Loop.{cseq_number};
 ghost use Rattle.sip_build.specs.Forwarding.{forwarded, is_request};
-ghost use Rattle.sip_build.specs.Further.{view_lines};
 ghost use Rattle.sip_build.specs.inner.HeaderRuns.{all_lines};
 ghost use Rattle.sip_build.specs.Requests.{ack_of, along_to, cancel_of};
 
-use crate::further::FurtherLine;
 use crate::law::{ack_of_a_forwarded_request, cancel_of_a_forwarded_request};
 use crate::runs::{HeaderRun, Pick};
 use crate::to_target::append_to_target;
 use itoa::Buffer;
 use sip_lex::cut_at_space;
-use sip_text::{Header, Message};
+use sip_text::{HeaderLine, HeaderLines, Message};
 use sip_uri::SipUri;
 use sip_via::{BranchName, Own, first_value};
 use std::alloc::{AllocError, Allocator};
@@ -49,11 +47,11 @@ fn first_route<A: Allocator>(message: &Message<A>) -> Option<&[u8]>
 }
 
 /// The header lines, or none of them where none is a Route line.
-fn with_routes<A: Allocator>(message: &Message<A>) -> &[Header<A>]
-    ensures { values_of (codes "route") (views result.now) ≡ values_of (codes "route") message.now.headers }
+fn with_routes<A: Allocator>(message: &Message<A>) -> HeaderLines<'_>
+    ensures { values_of (codes "route") (views result) ≡ values_of (codes "route") message.now.headers }
 {
     match first_route(message) {
-        None => &[],
+        None => HeaderLines::none(),
         Some(_) => message.headers(),
     }
 }
@@ -97,7 +95,7 @@ fn runs_behind_via<'a, A: Allocator>(
     message: &'a Message<A>,
     to: &'a [u8],
     number: &'a [u8],
-    more: &'a [FurtherLine<'a>],
+    more: &'a [HeaderLine<'a>],
 ) -> [HeaderRun<'a, A>; 8]
     requires { number.now ≡ cseq_number message.now }
     ensures { (target : Uri) (own : Own) (branch : BranchName)
@@ -125,7 +123,7 @@ fn append_to_same_hop<A: Allocator + Clone, B: Allocator>(
     own: Own,
     branch: &BranchName,
     to: &[u8],
-    more: &[FurtherLine<'_>],
+    more: &[HeaderLine<'_>],
 ) -> Result<(), AllocError>
     ensures ok { OnOk result
         (out.new.items ≡ out.old.items ++ spelling (along_to method.now message.now target.now own branch.now to.now (view_lines more.now))) }
@@ -181,7 +179,7 @@ pub fn write_forwarded_cancel<A: Allocator + Clone, B: Allocator>(
     target: &SipUri<A>,
     own: Own,
     branch: &BranchName,
-    reasons: &[FurtherLine<'_>],
+    reasons: &[HeaderLine<'_>],
     out: &mut Vec<u8, B>,
 ) -> Result<(), AllocError>
     requires request { is_request message.now.start ≡ true }

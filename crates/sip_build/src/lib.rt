@@ -27,7 +27,7 @@ mod upward_text;
 pub use challenges::challenge_name;
 pub use dialogs::opens_dialog;
 pub use forwarded_text::write_forwarded;
-pub use further::{FurtherLine, first_timestamp, reason_lines};
+pub use further::{first_timestamp, reason_lines};
 pub use generated_text::write_generated;
 pub use hop_by_hop::{write_forwarded_ack, write_forwarded_cancel};
 pub use law::{

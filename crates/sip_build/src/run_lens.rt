@@ -4,19 +4,17 @@ ghost use Rattle.std.specs.Prelude.{◌≡◌, List, ℕ, codes, length};
 ghost use Rattle.std.specs.Borrow.{Bor};
 ghost use Rattle.std.specs.List.{flat_map};
 ghost use Rattle.std.specs.Option.{option_copied};
-ghost use Rattle.sip_text.specs.Seen.{view, views};
+ghost use Rattle.sip_text.specs.Seen.{view_line, views};
 ghost use Rattle.sip_text.specs.Text.{header_text, pieces_text, saturated};
 ghost use Rattle.sip_via.specs.Edits.{line};
-ghost use Rattle.sip_build.specs.Further.{view_line};
 ghost use Rattle.sip_build.specs.inner.HeaderRuns.{lines_of, picked, under};
 ghost use Rattle.sip_build.specs.inner.Texts.{lines_text};
 ghost use Rattle.sip_build.specs.Upward.{challenge_line};
 
 use crate::challenges::challenge_name;
-use crate::further::FurtherLine;
 use crate::runs::{HeaderRun, Pick, picked_name};
 use fork_rank::Challenge;
-use sip_text::Header;
+use sip_text::{HeaderLine, HeaderLines};
 use std::alloc::Allocator;
 
 /// How many bytes the pieces are.
@@ -38,34 +36,34 @@ fn line_len(name: &[u8], value: &[u8]) -> usize
 }
 
 /// How many bytes the header lines are.
-fn kept_len<A: Allocator>(headers: &[Header<A>]) -> usize
-    ensures { result ≡ saturated (length (lines_text (views headers.now))) }
+fn kept_len(headers: HeaderLines<'_>) -> usize
+    ensures { result ≡ saturated (length (lines_text (views headers.entry))) }
 {
     let mut len = 0usize;
-    for header in headers {
-        len = len.saturating_add(line_len(header.name(), header.value()));
+    for line in headers {
+        len = len.saturating_add(line_len(line.name, line.value));
     }
     len
 }
 
 /// How many bytes a header line under that name is, if it has one.
-fn under_len<A: Allocator>(header: &Header<A>, name: Option<&[u8]>) -> usize
-    ensures { result ≡ saturated (length (lines_text (under (view header.now) (option_copied name.entry)))) }
+fn under_len(value: &[u8], name: Option<&[u8]>) -> usize
+    ensures { result ≡ saturated (length (lines_text (under value.now (option_copied name.entry)))) }
 {
     match name {
         None => 0,
-        Some(name) => line_len(name, header.value()),
+        Some(name) => line_len(name, value),
     }
 }
 
 /// How many bytes those of the header lines are that are picked.
-fn picked_len<A: Allocator>(headers: &[Header<A>], pick: Pick<'_>) -> usize
+fn picked_len(headers: HeaderLines<'_>, pick: Pick<'_>) -> usize
     ensures { result
-        ≡ saturated (length (flat_map (λ h. lines_text (picked pick.entry h)) (views headers.now))) }
+        ≡ saturated (length (flat_map (λ h. lines_text (picked pick.entry h)) (views headers.entry))) }
 {
     let mut len = 0usize;
-    for header in headers {
-        len = len.saturating_add(under_len(header, picked_name(header, pick)));
+    for line in headers {
+        len = len.saturating_add(under_len(line.value, picked_name(line, pick)));
     }
     len
 }
@@ -96,7 +94,7 @@ fn challenges_len<A: Allocator>(challenges: &[Challenge<A>]) -> usize
 }
 
 /// How many bytes the further lines are.
-fn further_len(lines: &[FurtherLine<'_>]) -> usize
+fn further_len(lines: &[HeaderLine<'_>]) -> usize
     ensures { result
         ≡ saturated (length (flat_map (λ f. header_text (view_line f)) lines.now)) }
 {
@@ -112,8 +110,9 @@ fn run_len<A: Allocator>(run: &HeaderRun<'_, A>) -> usize
     ensures { result ≡ saturated (length (lines_text (lines_of run.now))) }
 {
     match run {
-        HeaderRun::Kept(headers) => kept_len(headers),
-        HeaderRun::Picked(headers, pick) => picked_len(headers, *pick),
+        HeaderRun::NoLine => 0,
+        HeaderRun::Kept(headers) => kept_len(*headers),
+        HeaderRun::Picked(headers, pick) => picked_len(*headers, *pick),
         HeaderRun::Line(name, value) => line_len(name, value),
         HeaderRun::Joined(name, a, b, c) => pieces_len(&[name, b": ", a, b, c, b"\r\n"]),
         HeaderRun::Contacts(kept) => contacts_len(kept),

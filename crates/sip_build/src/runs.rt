@@ -4,21 +4,19 @@ ghost use Rattle.std.specs.Prelude.{◌≡◌, ◌+◌, ◌++◌, ◌≤◌, ◌
 ghost use Rattle.std.specs.Borrow.{Bor};
 ghost use Rattle.std.specs.List.{flat_map};
 ghost use Rattle.std.specs.Option.{option_copied};
-ghost use Rattle.sip_text.specs.Seen.{view, views};
+ghost use Rattle.sip_text.specs.Seen.{view_line, views};
 ghost use Rattle.sip_text.specs.Text.{header_text, saturated};
 ghost use Rattle.sip_via.specs.Edits.{line, line_if_any};
-ghost use Rattle.sip_build.specs.Further.{view_line};
 ghost use Rattle.sip_build.specs.inner.HeaderRuns.{lines_of, picked, picked_name, tail_text, under};
 ghost use Rattle.sip_build.specs.inner.Placed.{Placed};
 ghost use Rattle.sip_build.specs.inner.Texts.{lines_text};
 ghost use Rattle.sip_build.specs.Upward.{challenge_line};
 
 use crate::challenges::challenge_name;
-use crate::further::FurtherLine;
 use crate::place::{place, place_line, place_pieces};
 use crate::run_lens::{pieces_len, runs_len};
 use fork_rank::Challenge;
-use sip_text::Header;
+use sip_text::{HeaderLine, HeaderLines};
 use std::alloc::{AllocError, Allocator};
 
 /// Which header lines are written, and under which name.
@@ -35,10 +33,12 @@ pub(crate) enum Pick<'a> {
 /// Header lines of a message that is written.
 #[derive(Drop)]
 pub(crate) enum HeaderRun<'a, A: Allocator> {
+    /// No line.
+    NoLine,
     /// Lines as they stand.
-    Kept(&'a [Header<A>]),
+    Kept(HeaderLines<'a>),
     /// Some of these lines.
-    Picked(&'a [Header<A>], Pick<'a>),
+    Picked(HeaderLines<'a>, Pick<'a>),
     /// A line of that name and value.
     Line(&'a [u8], &'a [u8]),
     /// A line of that name; its value is the three texts one behind the other.
@@ -48,7 +48,7 @@ pub(crate) enum HeaderRun<'a, A: Allocator> {
     /// A line for each challenge.
     Challenges(&'a [Challenge<A>]),
     /// Lines beside those that are always there.
-    Further(&'a [FurtherLine<'a>]),
+    Further(&'a [HeaderLine<'a>]),
     /// A Max-Forwards line of seventy hops.
     SeventyHops,
     /// A Content-Length line of a message that has no body.
@@ -69,66 +69,53 @@ pub(crate) fn run_if_any<'a, A: Allocator>(
     ensures { lines_of result ≡ line_if_any name.now (option_copied value.entry) }
 {
     match value {
-        None => HeaderRun::Kept(&[]),
+        None => HeaderRun::NoLine,
         Some(value) => HeaderRun::Line(name, value),
     }
 }
 
 /// The name that a header line is written under, if it is written.
-pub(crate) fn picked_name<'a, A: Allocator>(
-    header: &'a Header<A>,
-    pick: Pick<'a>,
-) -> Option<&'a [u8]>
-    ensures { option_copied result ≡ picked_name pick.entry (view header.now) }
+pub(crate) fn picked_name<'a>(line: HeaderLine<'a>, pick: Pick<'a>) -> Option<&'a [u8]>
+    ensures { option_copied result ≡ picked_name pick.entry (view_line line.entry) }
 {
     match pick {
-        Pick::Named(name) => header.is_named(name).then_some(header.name()),
-        Pick::Others(name) => (!header.is_named(name)).then_some(header.name()),
-        Pick::Renamed(name, other) => header.is_named(name).then_some(other),
+        Pick::Named(name) => line.is_named(name).then_some(line.name),
+        Pick::Others(name) => (!line.is_named(name)).then_some(line.name),
+        Pick::Renamed(name, other) => line.is_named(name).then_some(other),
     }
 }
 
 /// Writes a header line under that name, if it has one.
-fn place_under<A: Allocator>(
-    out: &mut [u8],
-    at: usize,
-    header: &Header<A>,
-    name: Option<&[u8]>,
-) -> usize
-    requires { at + length (lines_text (under (view header.now) (option_copied name))) ≤ length out.old }
-    ensures { Placed out.old out.new at (lines_text (under (view header.now) (option_copied name.entry))) result }
+fn place_under(out: &mut [u8], at: usize, value: &[u8], name: Option<&[u8]>) -> usize
+    requires { at + length (lines_text (under value.now (option_copied name))) ≤ length out.old }
+    ensures { Placed out.old out.new at (lines_text (under value.now (option_copied name.entry))) result }
 {
     match name {
         None => at,
-        Some(name) => place_line(out, at, name, header.value()),
+        Some(name) => place_line(out, at, name, value),
     }
 }
 
 /// Writes the header lines.
-fn place_headers<A: Allocator>(out: &mut [u8], at: usize, headers: &[Header<A>]) -> usize
-    requires { at + length (lines_text (views headers.now)) ≤ length out.old }
-    ensures { Placed out.old out.new at (lines_text (views headers.now)) result }
+fn place_headers(out: &mut [u8], at: usize, headers: HeaderLines<'_>) -> usize
+    requires { at + length (lines_text (views headers)) ≤ length out.old }
+    ensures { Placed out.old out.new at (lines_text (views headers.entry)) result }
 {
     let mut end = at;
-    for header in headers {
-        end = place_line(out, end, header.name(), header.value());
+    for line in headers {
+        end = place_line(out, end, line.name, line.value);
     }
     end
 }
 
 /// Writes those of the header lines that are picked.
-fn place_picked<A: Allocator>(
-    out: &mut [u8],
-    at: usize,
-    headers: &[Header<A>],
-    pick: Pick<'_>,
-) -> usize
-    requires { at + length (flat_map (λ h. lines_text (picked pick h)) (views headers.now)) ≤ length out.old }
-    ensures { Placed out.old out.new at (flat_map (λ h. lines_text (picked pick.entry h)) (views headers.now)) result }
+fn place_picked(out: &mut [u8], at: usize, headers: HeaderLines<'_>, pick: Pick<'_>) -> usize
+    requires { at + length (flat_map (λ h. lines_text (picked pick h)) (views headers)) ≤ length out.old }
+    ensures { Placed out.old out.new at (flat_map (λ h. lines_text (picked pick.entry h)) (views headers.entry)) result }
 {
     let mut end = at;
-    for header in headers {
-        end = place_under(out, end, header, picked_name(header, pick));
+    for line in headers {
+        end = place_under(out, end, line.value, picked_name(line, pick));
     }
     end
 }
@@ -159,7 +146,7 @@ fn place_challenges<A: Allocator>(out: &mut [u8], at: usize, challenges: &[Chall
 }
 
 /// Writes the further lines.
-fn place_further(out: &mut [u8], at: usize, lines: &[FurtherLine<'_>]) -> usize
+fn place_further(out: &mut [u8], at: usize, lines: &[HeaderLine<'_>]) -> usize
     requires { at + length (flat_map (λ f. header_text (view_line f)) lines.now) ≤ length out.old }
     ensures { Placed out.old out.new at (flat_map (λ f. header_text (view_line f)) lines.now) result }
 {
@@ -176,8 +163,9 @@ fn place_run<A: Allocator>(out: &mut [u8], at: usize, run: &HeaderRun<'_, A>) ->
     ensures { Placed out.old out.new at (lines_text (lines_of run.now)) result }
 {
     match run {
-        HeaderRun::Kept(headers) => place_headers(out, at, headers),
-        HeaderRun::Picked(headers, pick) => place_picked(out, at, headers, *pick),
+        HeaderRun::NoLine => at,
+        HeaderRun::Kept(headers) => place_headers(out, at, *headers),
+        HeaderRun::Picked(headers, pick) => place_picked(out, at, *headers, *pick),
         HeaderRun::Line(name, value) => place_line(out, at, name, value),
         HeaderRun::Joined(name, a, b, c) => place_pieces(out, at, &[name, b": ", a, b, c, b"\r\n"]),
         HeaderRun::Contacts(kept) => place_contacts(out, at, kept),

@@ -18,7 +18,7 @@ use crate::made_text::{Front, append_made};
 use crate::runs::{HeaderRun, Pick, run_if_any};
 use fork_rank::Challenge;
 use sip_lex::{Shelter, cut_outside, trim};
-use sip_text::{Header, Message, Start};
+use sip_text::{HeaderLines, Message, StartLine};
 use sip_via::{BuildFault, has_second_via, place_of};
 use std::alloc::{AllocError, Allocator};
 
@@ -41,12 +41,12 @@ fn others_of<A: Allocator>(message: &Message<A>) -> Option<&[u8]>
 
 /// The header lines, the first Via line with another value, or left out, and a line for each challenge.
 fn replaced_runs<'a, A: Allocator>(
-    headers: &'a [Header<A>],
+    headers: HeaderLines<'a>,
     others: Option<&'a [u8]>,
     challenges: &'a [Challenge<A>],
 ) -> [HeaderRun<'a, A>; 6]
     ensures { all_lines result
-        ≡ replaced (codes "via") (option_copied others.entry) (views headers.now) ++ map challenge_line challenges.now }
+        ≡ replaced (codes "via") (option_copied others.entry) (views headers.entry) ++ map challenge_line challenges.now }
 {
     let (front, back) = headers.split_at(place_of(headers, VIA));
     let front = HeaderRun::Kept(front);
@@ -55,30 +55,30 @@ fn replaced_runs<'a, A: Allocator>(
         return [
             front,
             last,
-            HeaderRun::Kept(&[]),
-            HeaderRun::Kept(&[]),
-            HeaderRun::Kept(&[]),
-            HeaderRun::Kept(&[]),
+            HeaderRun::NoLine,
+            HeaderRun::NoLine,
+            HeaderRun::NoLine,
+            HeaderRun::NoLine,
         ];
     };
-    let top = run_if_any(top.name(), others);
+    let top = run_if_any(top.name, others);
     [
         front,
         top,
         HeaderRun::Kept(after),
         last,
-        HeaderRun::Kept(&[]),
-        HeaderRun::Kept(&[]),
+        HeaderRun::NoLine,
+        HeaderRun::NoLine,
     ]
 }
 
 /// The header lines, a Contact line for each kept text in the place of all of theirs.
 fn exchanged_runs<'a, A: Allocator>(
-    headers: &'a [Header<A>],
+    headers: HeaderLines<'a>,
     kept: &'a [&'a [u8]],
 ) -> (HeaderRun<'a, A>, HeaderRun<'a, A>, HeaderRun<'a, A>)
     ensures { lines_of result.0 ++ (lines_of result.1 ++ lines_of result.2)
-        ≡ exchanged (codes "contact") (contact_lines (texts kept.now)) (views headers.now) }
+        ≡ exchanged (codes "contact") (contact_lines (texts kept.now)) (views headers.entry) }
 {
     let (front, back) = headers.split_at(place_of(headers, CONTACT));
     let others = HeaderRun::Picked(back, Pick::Others(CONTACT));
@@ -88,13 +88,13 @@ fn exchanged_runs<'a, A: Allocator>(
 /// The header lines with the contacts exchanged, and with another value in the first Via line, or
 /// without it, and a line for each challenge.
 fn kept_runs<'a, A: Allocator>(
-    headers: &'a [Header<A>],
+    headers: HeaderLines<'a>,
     others: Option<&'a [u8]>,
     kept: &'a [&'a [u8]],
     challenges: &'a [Challenge<A>],
 ) -> [HeaderRun<'a, A>; 6]
     ensures { all_lines result
-        ≡ exchanged (codes "contact") (contact_lines (texts kept.now)) (replaced (codes "via") (option_copied others.entry) (views headers.now))
+        ≡ exchanged (codes "contact") (contact_lines (texts kept.now)) (replaced (codes "via") (option_copied others.entry) (views headers.entry))
         ++ map challenge_line challenges.now }
 {
     let (front, back) = headers.split_at(place_of(headers, VIA));
@@ -106,11 +106,11 @@ fn kept_runs<'a, A: Allocator>(
             contacts,
             rest,
             last,
-            HeaderRun::Kept(&[]),
-            HeaderRun::Kept(&[]),
+            HeaderRun::NoLine,
+            HeaderRun::NoLine,
         ];
     };
-    let top = run_if_any(top.name(), others);
+    let top = run_if_any(top.name, others);
     if place_of(front, CONTACT) < front.len() {
         let (first, contacts, rest) = exchanged_runs(front, kept);
         let after = HeaderRun::Picked(after, Pick::Others(CONTACT));
@@ -137,14 +137,14 @@ fn upward_runs<'a, A: Allocator>(
 }
 
 /// A start line as it is written.
-fn front_of<A: Allocator>(start: &Start<A>) -> Front<'_>
-    requires { is_start (view_start start.now) ≡ true }
-    ensures start { start_of result ≡ view_start start.now }
+fn front_of(start: StartLine<'_>) -> Front<'_>
+    requires { is_start (view_start start) ≡ true }
+    ensures start { start_of result ≡ view_start start.entry }
     ensures fits { IsFront result }
 {
     match start {
-        Start::Request { method, uri } => Front::Request(method, uri),
-        Start::Response { status, reason } => Front::Response(*status, reason),
+        StartLine::Request { method, uri } => Front::Request(method, uri),
+        StartLine::Response { status, reason } => Front::Response(status, reason),
     }
 }
 

@@ -43,7 +43,7 @@ via-first : (v : List ℕ) (hs : List HeaderText) → is_none (first_value (code
 unfolding full_name values_of
 via-first v hs = refl
 
-forwarded-good : (m : MessageText) (target : Uri) (proxy : Own) (b : BranchName) → IsMessage m → is_request m.start ≡ true → IfSome (first_value hops_name m.headers) IsHops → IsUri target → list_all is_uri_byte (request_uri target) ≡ true → is_value (own_via proxy b) ≡ true → IsMessage (forwarded m target proxy b None)
+pub forwarded-good : (m : MessageText) (target : Uri) (proxy : Own) (b : BranchName) → IsMessage m → is_request m.start ≡ true → IfSome (first_value hops_name m.headers) IsHops → IsUri target → list_all is_uri_byte (request_uri target) ≡ true → is_value (own_via proxy b) ≡ true → IsMessage (forwarded m target proxy b None)
 forwarded-good m target proxy b good request hops uri bytes value =
     let lowered = hops_lowered m.headers (first_value hops_name m.headers) in
     let via = line (codes "Via") (own_via proxy b) in
@@ -57,7 +57,3 @@ forwarded-good m target proxy b good request hops uri bytes value =
       };
       body = ap (λ (v : List (List ℕ)). fits_body (said_by v) (length m.body)) same.length ∙ good.body;
     }
-
--- parts that are those of a forwarded request
-pub parts-good : (m : MessageText) (target : Uri) (proxy : Own) (b : BranchName) (start : StartText) (hs : List HeaderText) (body : List ℕ) → IsMessage m → is_request m.start ≡ true → IfSome (first_value hops_name m.headers) IsHops → IsUri target → list_all is_uri_byte (request_uri target) ≡ true → is_value (own_via proxy b) ≡ true → start ≡ to_target m.start target → hs ≡ line (codes "Via") (own_via proxy b) ∷ hops_lowered m.headers (first_value hops_name m.headers) → body ≡ m.body → IsMessage (record { start = start; headers = hs; body = body })
-parts-good m target proxy b start hs body good request hops uri bytes value s h e = grind (arith, common_steps, forwarded-good m target proxy b good request hops uri bytes value)

@@ -1,6 +1,5 @@
 pub mod Common
 pub mod laws
-pub mod Added
 pub mod CSeqAgain
 pub mod Forwarded
 pub mod HeaderValues
@@ -10,3 +9,4 @@ pub mod RequestsGood
 pub mod TrimmedVias
 pub mod UpwardGood
 pub mod ViasUpward
+pub mod WrittenTexts

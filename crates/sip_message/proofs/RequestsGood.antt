@@ -145,7 +145,3 @@ ack_good sent response request is other = along_good (codes "ACK") sent (to_valu
 
 pub cancel_good : (sent : MessageText) (reasons : List HeaderText) → is_request sent.start ≡ true → IsMessage sent → list_all is_header reasons ≡ true → values_of length_name reasons ≡ [] → IsMessage (cancel_of sent reasons)
 cancel_good sent reasons request is good none = along_good (codes "CANCEL") sent (to_value sent) reasons cancel request (to_good sent is) good none is
-
--- the same header lines with what was read of the messages
-pub along_lines : (method : List ℕ) (sent : MessageText) (to via from call seq : List ℕ) → via ≡ top_value sent → from ≡ from_value sent → call ≡ call_id sent → seq ≡ cseq_number sent ++ 32 ∷ method → line (codes "Via") via ∷ line (codes "Max-Forwards") (codes "70") ∷ (lines_as (codes "Route") (codes "route") sent ++ line (codes "From") from ∷ line (codes "To") to ∷ line (codes "Call-ID") call ∷ line (codes "CSeq") seq ∷ line (codes "Content-Length") (codes "0") ∷ []) ≡ (along method sent to []).headers
-along_lines method sent to via from call seq v f i s = grind arith

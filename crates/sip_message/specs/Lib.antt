@@ -1,2 +1,2 @@
 pub mod Builds
-pub mod SeenMessages
+pub mod Written

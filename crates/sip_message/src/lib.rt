@@ -1,14 +1,13 @@
 //! Messages as values: the requests, responses, ACK and CANCEL that `sip_build` writes straight to bytes, each as a `Message`
-//! (RFC 3261 sections 8.2.6, 9.1, 16.6, 16.7 and 17.1.1.3); a request with its source in the top Via value, or without the Route
-//! value that names the proxy, as copies (sections 16.4 and 18.2); and the header lines that these are made of.
+//! (RFC 3261 sections 8.2.6, 9.1, 16.6, 16.7 and 17.1.1.3); and a request with its source in the top Via value, or without the
+//! Route value that names the proxy, as copies (sections 16.4 and 18.2).
 //!
-//! `forkproxy` writes bytes alone and has no part of this crate; the service makes its own answers by it. What is built is a
-//! definition in the `specs/` of `sip_via`, `sip_route` and `sip_build`, the same that the bytes are written by.
+//! Each is written, and what was written is read: by the round trip of `sip_text` it is read as what was spelled. No program has a
+//! part of this crate. What is built is a definition in the `specs/` of `sip_via`, `sip_route` and `sip_build`, the same that the
+//! bytes are written by.
 #![tactic(auto)]
 
-mod edits;
 mod forwarding;
-mod lines;
 mod marking;
 mod received;
 mod requests;
@@ -16,10 +15,9 @@ mod responses;
 mod routes;
 mod upstream;
 mod via_laws;
+mod written;
 
-pub use edits::{add_copies, add_line_if_any, add_replaced, copy_others, with_headers};
 pub use forwarding::forward;
-pub use lines::{add_first, add_line, add_made, add_named, add_values_as};
 pub use marking::{marked_value_is_read, marking_changes_the_top_value, marking_keeps_the_sender};
 pub use received::{mark_received, reply_hop};
 pub use requests::{ack_is_message, ack_of, cancel_is_message, cancel_of};

@@ -1,25 +1,17 @@
 //! A copy of a request that tells where it came from, and where its response goes.
 
 ghost use Rattle.std.specs.Prelude.{◌≡◌, IfErr};
-ghost use Rattle.sip_via.specs.Received.{IsSource, marked, reply_of};
+ghost use Rattle.sip_via.specs.Received.{marked, reply_of};
 ghost use Rattle.sip_via.specs.ViaFaults.{Gives, refusal};
 
-use crate::edits::{add_replaced, with_headers};
+use crate::written::copy_of;
 use sip_text::Message;
 use sip_uri::{Hop, Transport};
-use sip_via::{Via, ViaFault, first_value, marked_line};
+use sip_via::{ReceivedFault, Via, ViaFault, add_received, readable_is_marked, sender_of, top_via};
 use std::alloc::Allocator;
-
-/// The name of the field, in lower case.
-const VIA: &[u8] = b"via";
 
 /// The port of SIP over UDP and TCP where a Via value names none (RFC 3261 section 18.2.2).
 const DEFAULT_PORT: u16 = 5060;
-
-/// Shows that the numbers of a hop are bounded.
-fn is_source(source: Hop)
-    ensures { IsSource source }
-{}
 
 /// Where a response to a request with that top value goes, which came from `source` (RFC 3261
 /// section 18.2.2, RFC 3581 section 4): over UDP to the source's address, and to its port where `rport` now
@@ -57,10 +49,14 @@ pub fn mark_received<A: Allocator + Clone>(
     ensures exact { Gives (λ m. m) result (marked message.now source) }
     ensures refused { IfErr result (λ fault. fault ≡ refusal (marked message.now source)) }
 {
-    message.is_message();
-    is_source(source);
-    let line = marked_line(&alloc, first_value(message, VIA), source)?;
-    let mut headers = Vec::new(alloc.clone()?);
-    add_replaced(&mut headers, &alloc, message.headers(), VIA, Some(line))?;
-    Ok(with_headers(alloc, message, headers)?)
+    readable_is_marked();
+    // That the value can't be read is told before any want of memory.
+    if sender_of(top_via(message)).is_none() {
+        return Err(ViaFault::BadVia);
+    }
+    let copy = copy_of(alloc.clone()?, message)?;
+    match add_received(alloc, copy, source) {
+        Ok(marked) => Ok(marked),
+        Err(ReceivedFault { fault, .. }) => Err(fault),
+    }
 }

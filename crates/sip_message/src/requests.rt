@@ -1,72 +1,97 @@
 //! The ACK for a failure, and the CANCEL of a request that was sent.
 
-ghost use Rattle.std.specs.Prelude.{◌≡◌, [], ◌++◌, ◌∷◌, List, IfErr, IfOk, true};
-ghost use Rattle.std.specs.List.{list_all};
+ghost use Rattle.std.specs.Prelude.{◌≡◌, [], ◌++◌, ◌∷◌, List, IfErr, IfOk, OnOk, codes, true};
+ghost use Rattle.std.specs.List.{flat_map, list_all};
 ghost use Rattle.sip_text.specs.Fields.{length_name};
 ghost use Rattle.sip_text.specs.Message.{IsMessage, is_header};
 ghost use Rattle.sip_text.specs.Name.{values_of};
-ghost use Rattle.sip_text.specs.Seen.{view_start, views};
-ghost use Rattle.sip_text.specs.Text.{HeaderText, MessageText, Request};
+ghost use Rattle.sip_text.specs.Text.{HeaderText, MessageText, header_text, spelling};
 ghost use Rattle.sip_via.specs.declared.own.BuildFault.TheVariants.{NoMemory};
-ghost use Rattle.sip_route.specs.Loop.{cseq_number, request_uri};
+ghost use Rattle.sip_via.specs.Edits.{line};
+ghost use Rattle.sip_via.specs.Lines.{lines_as};
+ghost use Rattle.sip_route.specs.Loop.{cseq_number};
 ghost use Rattle.sip_build.specs.Forwarding.{is_request};
 ghost use Rattle.sip_build.specs.Requests.{ack_of, along, cancel_of};
 
-use crate::lines::{add_line, add_made, add_values_as};
+use crate::written::read_written;
 use itoa::Buffer;
 use sip_route::request_uri;
-use sip_text::{Header, Message, Start};
+use sip_text::{Message, append_pieces, append_request_line};
 use sip_via::{BuildFault, first_value, top_via};
 use std::alloc::{AllocError, Allocator};
 
-/// The number of the CSeq of a message, and a method.
-fn cseq_text<A: Allocator>(
-    alloc: A,
-    sent: &Message<A>,
-    method: &[u8],
-) -> Result<Vec<u8, A>, AllocError>
-    ensures { IfOk result (λ text. text.items ≡ cseq_number sent.now ++ 32 ∷ method.now) }
+/// Appends a header line, or a part of it.
+fn append_line<B: Allocator>(
+    out: &mut Vec<u8, B>,
+    name: &[u8],
+    value: &[u8],
+) -> Result<(), AllocError>
+    ensures { OnOk result (out.new.items ≡ out.old.items ++ header_text (line name.now value.now)) }
 {
-    let mut text = Vec::from_slice(alloc, Buffer::new().format(sent.cseq().number).as_bytes())?;
-    text.push(b' ')?;
-    text.extend_from_slice(method)?;
-    Ok(text)
+    append_pieces(out, &[name, b": ", value, b"\r\n"])
 }
 
-/// The header lines of a request of that method on the way of the sent one.
-fn headers_along<A: Allocator + Clone>(
-    alloc: &A,
+/// Appends a Route line for each Route line of a message, or some of them.
+fn append_routes<A: Allocator, B: Allocator>(
+    out: &mut Vec<u8, B>,
+    sent: &Message<A>,
+) -> Result<(), AllocError>
+    ensures { OnOk result
+        (out.new.items ≡ out.old.items ++ flat_map header_text (lines_as (codes "Route") (codes "route") sent.now)) }
+{
+    let mut values = sent.values(b"route");
+    while let Some(value) = values.next() {
+        append_line(out, b"Route", value)?;
+    }
+    Ok(())
+}
+
+/// Appends the CSeq line of a request of that method on the way of the sent one, or a part of it.
+fn append_cseq<A: Allocator, B: Allocator>(
+    out: &mut Vec<u8, B>,
+    method: &[u8],
+    sent: &Message<A>,
+) -> Result<(), AllocError>
+    ensures { OnOk result
+        (out.new.items ≡ out.old.items ++ header_text (line (codes "CSeq") (cseq_number sent.now ++ 32 ∷ method.now))) }
+{
+    let mut buffer = Buffer::new();
+    let number = buffer.format(sent.cseq().number).as_bytes();
+    append_pieces(out, &[b"CSeq: ", number, b" ", method, b"\r\n"])
+}
+
+/// Appends the header lines of a request of that method on the way of the sent one, or some of them.
+fn append_headers_along<A: Allocator, B: Allocator>(
+    out: &mut Vec<u8, B>,
     method: &[u8],
     sent: &Message<A>,
     to: &[u8],
-) -> Result<Vec<Header<A>, A>, AllocError>
-    ensures { IfOk result (λ headers. views headers.items ≡ (along method.now sent.now to.now []).headers) }
+) -> Result<(), AllocError>
+    ensures { OnOk result
+        (out.new.items ≡ out.old.items ++ flat_map header_text (along method.now sent.now to.now []).headers) }
 {
-    let mut headers = Vec::new(alloc.clone()?);
-    add_line(&mut headers, alloc, b"Via", top_via(sent))?;
-    add_line(&mut headers, alloc, b"Max-Forwards", b"70")?;
-    add_values_as(&mut headers, alloc, sent, b"route", b"Route")?;
-    add_line(&mut headers, alloc, b"From", first_value(sent, b"from"))?;
-    add_line(&mut headers, alloc, b"To", to)?;
-    add_line(&mut headers, alloc, b"Call-ID", sent.call_id())?;
-    let cseq = cseq_text(alloc.clone()?, sent, method)?;
-    add_made(&mut headers, alloc, b"CSeq", cseq)?;
-    add_line(&mut headers, alloc, b"Content-Length", b"0")?;
-    Ok(headers)
+    append_line(out, b"Via", top_via(sent))?;
+    append_line(out, b"Max-Forwards", b"70")?;
+    append_routes(out, sent)?;
+    append_line(out, b"From", first_value(sent, b"from"))?;
+    append_line(out, b"To", to)?;
+    append_line(out, b"Call-ID", sent.call_id())?;
+    append_cseq(out, method, sent)?;
+    append_line(out, b"Content-Length", b"0")
 }
 
-/// The start line of a request of that method to where the sent one went.
-fn start_along<A: Allocator + Clone>(
-    alloc: &A,
+/// Appends a request of that method on the way of the sent one, or a part of it.
+fn append_along<A: Allocator, B: Allocator>(
+    out: &mut Vec<u8, B>,
     method: &[u8],
     sent: &Message<A>,
-) -> Result<Start<A>, AllocError>
-    ensures { IfOk result (λ start. view_start start ≡ Request method.now (request_uri sent.now.start)) }
+    to: &[u8],
+) -> Result<(), AllocError>
+    ensures { OnOk result (out.new.items ≡ out.old.items ++ spelling (along method.now sent.now to.now [])) }
 {
-    Ok(Start::Request {
-        method: Vec::from_slice(alloc.clone()?, method)?,
-        uri: Vec::from_slice(alloc.clone()?, request_uri(sent))?,
-    })
+    append_request_line(out, method, request_uri(sent))?;
+    append_headers_along(out, method, sent, to)?;
+    append_pieces(out, &[b"\r\n"])
 }
 
 /// A request of that method on the way of the sent one.
@@ -80,9 +105,9 @@ fn along<A: Allocator + Clone>(
     ensures ok { IfOk result (λ made. made ≡ along method.now sent.now to.now []) }
     ensures err { IfErr result (λ fault. fault ≡ NoMemory) }
 {
-    let start = start_along(&alloc, method, sent)?;
-    let headers = headers_along(&alloc, method, sent, to)?;
-    Ok(Message::from_parts(start, headers, Vec::new(alloc)))
+    let mut text = Vec::new(alloc.clone()?);
+    append_along(&mut text, method, sent, to)?;
+    Ok(read_written(alloc, &text)?)
 }
 
 /// The ACK for a response of 300 to 699 to a request that was sent (RFC 3261 section 17.1.1.3): on

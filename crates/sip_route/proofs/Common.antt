@@ -19,7 +19,7 @@ pub use Rattle.sip_lex.specs.declared.sheltered.Place.TheVariants.{Plain}
 pub use Rattle.sip_lex.specs.declared.sheltered.Shelter.TheVariants.{QuotesAndAngles}
 pub use Rattle.sip_text.specs.Message.{IsMessage}
 pub use Rattle.sip_text.specs.Name.{first_of, first_value, same_name}
-pub use Rattle.sip_text.specs.Seen.{views}
+pub use Rattle.sip_text.specs.Seen.{view_line, views}
 pub use Rattle.sip_text.specs.Text.{HeaderText, MessageText}
 pub use Rattle.sip_via.specs.Edits.{line, replaced, with_headers}
 pub use Rattle.sip_via.specs.OwnPass.{IsOwnPass}

@@ -1,12 +1,12 @@
 -- The first header line of a name, changed or taken away at its place.
-use Rattle.sip_route.proofs.Common.{◌≡◌, ℕ, zero, suc, ◌+◌, ◌-◌, ◌<◌, List, [], ◌∷◌, ◌++◌, length, take, get_or, slice_set, Option, Some, None, refl, sym, ap, ◌∙◌, arith, inl, inr, append_assoc, option_map, remove, prefix_len, cases_Bool, cond-true}
+use Rattle.sip_route.proofs.Common.{◌≡◌, ℕ, zero, suc, ◌+◌, ◌-◌, ◌<◌, List, [], ◌∷◌, ◌++◌, length, take, drop, Option, Some, None, refl, sym, ap, ◌∙◌, arith, inl, inr, append_assoc, option_map, remove, prefix_len, cases_Bool, cond-true}
 use Rattle.sip_route.proofs.Common.{cond-false, is_space, trim, trim_end, trim_start, first_of, first_value, same_name, views, HeaderText, line, replaced, Own, QuotesAndAngles, Plain, cut_outside, route_name, stripped_at, stripped_headers}
 use Rattle.sip_route.proofs.Common.{LineLeaves, part, common_steps}
 use Rattle.std.proofs.Common.{slice_get}
 use Rattle.std.proofs.lemmas.List.{take-append-drop}
 use Rattle.sip_text.specs.Name.{values_of}
-use Rattle.sip_text.specs.Seen.{view}
 use Rattle.sip_via.specs.Edits.{place_of}
+use Rattle.sip_via.proofs.laws.Places.{valued-replaced}
 use Rattle.sip_route.specs.declared.stripping.Left.{Left}
 use Rattle.sip_route.specs.declared.stripping.Left.TheVariants.{All, Nothing, Part}
 use Rattle.sip_route.specs.inner.Stripping.{Leaves}
@@ -21,18 +21,6 @@ part-others whole front others rest e r =
     let split : whole ≡ (front ++ 44 ∷ spaces) ++ trim_start others =
     e ∙ ap (λ (xs : List ℕ). front ++ 44 ∷ xs) (sym (take-append-drop n others)) ∙ sym (append_assoc front (44 ∷ spaces) (trim_start others)) in
     grind (arith, common_steps)
-
--- ---- the value at the place
-
-pub set-views : (hs : List HeaderText) (n : ℕ) (h : HeaderText) → views (slice_set hs n h) ≡ slice_set (views hs) n (view h)
-set-views [] n h = refl
-set-views (x ∷ hs) zero h = refl
-set-views (x ∷ hs) (suc n) h = ap (λ (xs : List HeaderText). view x ∷ xs) (set-views hs n h)
-
-pub at-views : (hs : List HeaderText) (n : ℕ) (x : HeaderText) (h : HeaderText) → x ≡ get_or hs n x → slice_get (views hs) n ≡ Some h → view x ≡ h
-at-views [] n x h e is = absurd cc
-at-views (y ∷ hs) zero x h e is = let same : view y ≡ h = cc in ap (λ (z : HeaderText). view z) e ∙ same
-at-views (y ∷ hs) (suc n) x h e is = at-views hs n x h e is
 
 -- ---- the first line of the name
 
@@ -87,33 +75,7 @@ replaced-none name (h ∷ hs) x e =
           ∙ sym (ap (λ m. remove (h ∷ hs) m) at)
     ]
 
--- it has another value
-replaced-set : (name v : List ℕ) (hs : List HeaderText) (x : HeaderText) → slice_get hs (place_of name hs) ≡ Some x → replaced name (Some v) hs ≡ slice_set hs (place_of name hs) (line x.name v)
-replaced-set name v [] x e = absurd cc
-replaced-set name v (h ∷ hs) x e =
-    let n = place_of name hs in
-    let k : 1 + n ≡ suc n = omega arith in
-    elim (cases_Bool (same_name name h.name)) [
-      | inl same ↦
-          let at : place_of name (h ∷ hs) ≡ 0 = cond-true (same_name name h.name) 0 (1 + n) same in
-          let found : Some h ≡ Some x = sym (ap (λ m. slice_get (h ∷ hs) m) at) ∙ e in
-          let is : h ≡ x = cc in
-          cond-true (same_name name h.name) (line h.name v ∷ hs) (h ∷ replaced name (Some v) hs) same
-          ∙ ap (λ (y : HeaderText). line y.name v ∷ hs) is
-          ∙ sym (ap (λ m. slice_set (h ∷ hs) m (line x.name v)) at)
-      | inr other ↦
-          let at : place_of name (h ∷ hs) ≡ suc n = cond-false (same_name name h.name) 0 (1 + n) other ∙ k in
-          cond-false (same_name name h.name) (line h.name v ∷ hs) (h ∷ replaced name (Some v) hs) other
-          ∙ ap (λ (xs : List HeaderText). h ∷ xs) (replaced-set name v hs x (sym (ap (λ m. slice_get (h ∷ hs) m) at) ∙ e))
-          ∙ sym (ap (λ m. slice_set (h ∷ hs) m (line x.name v)) at)
-    ]
-
 -- ---- the first Route line
-
-get-views : (hs : List HeaderText) (n : ℕ) → slice_get (views hs) n ≡ option_map view (slice_get hs n)
-get-views [] n = refl
-get-views (x ∷ hs) zero = refl
-get-views (x ∷ hs) (suc n) = get-views hs n
 
 get-within : (hs : List HeaderText) (n : ℕ) (x : HeaderText) → slice_get hs n ≡ Some x → n < length hs
 get-within [] n x e = absurd cc
@@ -123,9 +85,9 @@ get-within (h ∷ hs) (suc n) x e = let lt = get-within hs n x e in omega (arith
 stripped-at : (own : Own) (hs : List HeaderText) (n : ℕ) (h : HeaderText) → n ≡ place_of route_name hs → slice_get hs n ≡ Some h → stripped_headers own hs ≡ stripped_at own hs (Some h.value)
 stripped-at own hs n h at e = ap (stripped_at own hs) (first_at route_name hs h (ap (λ m. slice_get hs m) (sym at) ∙ e))
 
-line-leaves : (own : Own) (hs : List HeaderText) (n : ℕ) (h : HeaderText) (left : Left) → n ≡ place_of route_name hs → slice_get hs n ≡ Some h → LineLeaves own h.value (cut_outside QuotesAndAngles 44 Plain h.value) left → Leaves own hs n left
-line-leaves own hs n h All at e l = stripped-at own hs n h at e ∙ cond-false _ _ _ l
-line-leaves own hs n h Nothing at e l = (
+pub leaves-some : (own : Own) (hs : List HeaderText) (n : ℕ) (h : HeaderText) (left : Left) → n ≡ place_of route_name hs → slice_get hs n ≡ Some h → LineLeaves own h.value (cut_outside QuotesAndAngles 44 Plain h.value) left → Leaves own hs n left
+leaves-some own hs n h All at e l = stripped-at own hs n h at e ∙ cond-false _ _ _ l
+leaves-some own hs n h Nothing at e l = (
   get-within hs n h e,
   stripped-at own hs n h at e
       ∙ cond-true _ _ _ l.0
@@ -133,19 +95,13 @@ line-leaves own hs n h Nothing at e l = (
       ∙ replaced-none route_name hs h (ap (λ m. slice_get hs m) (sym at) ∙ e)
       ∙ sym (ap (λ m. remove hs m) at),
 )
-line-leaves own hs n h (Part start len) at e l = (
-  h,
-  e,
-  l.1,
+leaves-some own hs n h (Part start len) at e l = (
+  get-within hs n h e,
   stripped-at own hs n h at e
       ∙ cond-true _ _ _ l.0
-      ∙ ap (λ (v : Option (List ℕ)). replaced route_name v hs) l.2
-      ∙ replaced-set route_name (part start len h.value) hs h (ap (λ m. slice_get hs m) (sym at) ∙ e)
-      ∙ sym (ap (λ m. slice_set hs m (line h.name (part start len h.value))) at),
+      ∙ ap (λ (v : Option (List ℕ)). replaced route_name v hs) l.1
+      ∙ sym (valued-replaced route_name (λ (v : List ℕ). take len (drop start v)) hs n h at e),
 )
 
-pub leaves-some : (own : Own) (hs : List HeaderText) (n : ℕ) (h : HeaderText) (left : Left) → n ≡ place_of route_name (views hs) → slice_get hs n ≡ Some h → LineLeaves own h.value (cut_outside QuotesAndAngles 44 Plain h.value) left → Leaves own (views hs) n left
-leaves-some own hs n h left at e l = line-leaves own (views hs) n (view h) left at (get-views hs n ∙ ap (λ (o : Option HeaderText). option_map view o) e) l
-
-pub leaves-none : (own : Own) (hs : List HeaderText) (n : ℕ) → n ≡ place_of route_name (views hs) → slice_get hs n ≡ None → Leaves own (views hs) n All
-leaves-none own hs n at e = ap (stripped_at own (views hs)) (first_nowhere route_name (views hs) (ap (λ m. slice_get (views hs) m) (sym at) ∙ get-views hs n ∙ ap (λ (o : Option HeaderText). option_map view o) e))
+pub leaves-none : (own : Own) (hs : List HeaderText) (n : ℕ) → n ≡ place_of route_name hs → slice_get hs n ≡ None → Leaves own hs n All
+leaves-none own hs n at e = ap (stripped_at own hs) (first_nowhere route_name hs (ap (λ m. slice_get hs m) (sym at) ∙ e))

@@ -5,10 +5,11 @@ ghost use Rattle.std.specs.List.{join_with_byte, list_any};
 ghost use Rattle.md5.specs.Md5.{Holds};
 ghost use Rattle.sip_route.specs.Loop.{all_values, dialog_fields, field_line, field_lines, loop_key, request_uri, routing_fields};
 ghost use Rattle.sip_route.specs.inner.Loop.{behind_commas, may_route};
+ghost use Rattle.sip_text.specs.Seen.{view_line, views};
 
 use crate::fields::{add_field, add_number, add_optional};
 use md5::{Digest, Md5};
-use sip_text::{Header, Message, Start, Values};
+use sip_text::{HeaderLine, HeaderLines, Message, StartLine, Values};
 use std::alloc::Allocator;
 
 /// The Request-URI of a request; empty for a response.
@@ -16,13 +17,13 @@ pub fn request_uri<A: Allocator>(message: &Message<A>) -> &[u8]
     ensures { result.now ≡ request_uri message.now.start }
 {
     match message.start() {
-        Start::Request { uri, .. } => uri,
-        Start::Response { .. } => b"",
+        StartLine::Request { uri, .. } => uri,
+        StartLine::Response { .. } => b"",
     }
 }
 
 /// Adds the values left, a comma before each.
-fn add_more<A: Allocator>(hasher: &mut Md5, mut values: Values<'_, '_, A>)
+fn add_more(hasher: &mut Md5, mut values: Values<'_, '_>)
     ensures { (m : List ℕ) → Holds hasher.old m → Holds hasher.new (m ++ behind_commas values.entry) }
 {
     while let Some(value) = values.next() {
@@ -32,7 +33,7 @@ fn add_more<A: Allocator>(hasher: &mut Md5, mut values: Values<'_, '_, A>)
 }
 
 /// Adds the values left, a comma between two.
-fn add_joined<A: Allocator>(hasher: &mut Md5, mut values: Values<'_, '_, A>)
+fn add_joined(hasher: &mut Md5, mut values: Values<'_, '_>)
     ensures { (m : List ℕ) → Holds hasher.old m → Holds hasher.new (m ++ join_with_byte 44 values.entry) }
 {
     let Some(first) = values.next() else {
@@ -74,10 +75,10 @@ fn add_routing_lines<A: Allocator>(hasher: &mut Md5, message: &Message<A>)
 
 /// Whether a header line may say how the request is routed, by how long its name is. A name of one letter is a compact
 /// form.
-fn may_route<A: Allocator>(header: &Header<A>) -> bool
-    ensures { result ≡ may_route header.now }
+fn may_route(header: HeaderLine<'_>) -> bool
+    ensures { result ≡ may_route (view_line header.entry) }
 {
-    match header.name().len() {
+    match header.name.len() {
         5 => header.is_named(b"route"),
         1 | 13 | 19 => true,
         _ => false,
@@ -85,10 +86,15 @@ fn may_route<A: Allocator>(header: &Header<A>) -> bool
 }
 
 /// Whether one of the header lines may say how the request is routed.
-fn may_be_routed<A: Allocator>(headers: &[Header<A>]) -> bool
-    ensures { result ≡ list_any may_route headers.now }
+fn may_be_routed(headers: HeaderLines<'_>) -> bool
+    ensures { result ≡ list_any may_route (views headers.entry) }
 {
-    headers.iter().any(|header| may_route(header))
+    for header in headers {
+        if may_route(header) {
+            return true;
+        }
+    }
+    false
 }
 
 /// Adds the fields that say how the request is routed. Most requests have none of these header lines.

@@ -27,12 +27,12 @@ pub enum FirstRoute {
 
 /// The Route values that are left.
 #[derive(Drop)]
-struct RouteValues<'a, A: Allocator> {
+struct RouteValues<'a> {
     line: Option<&'a [u8]>,
-    lines: Values<'a, 'static, A>,
+    lines: Values<'a, 'static>,
 }
 
-impl<'a, A: Allocator> Model for RouteValues<'a, A> {
+impl<'a> Model for RouteValues<'a> {
     ghost use Rattle.std.specs.Prelude.{List, ℕ};
     ghost use Rattle.std.specs.Option.{option_copied};
     ghost use Rattle.sip_route.specs.inner.RouteValues.{values_left};
@@ -50,10 +50,7 @@ fn cut_value(text: &[u8]) -> (&[u8], Option<&[u8]>)
 }
 
 /// The line that is begun, or else the next one.
-fn take_line<'a, A: Allocator>(
-    line: &mut Option<&'a [u8]>,
-    lines: &mut Values<'a, 'static, A>,
-) -> Option<&'a [u8]>
+fn take_line<'a>(line: &mut Option<&'a [u8]>, lines: &mut Values<'a, 'static>) -> Option<&'a [u8]>
     ensures some { IfSome result
         (λ text. values_left (option_copied line.old) lines.old ≡ values_in text.now ++ flat_map values_in lines.new) }
     ensures none { IfNone result (values_left (option_copied line.old) lines.old ≡ []) }
@@ -64,12 +61,12 @@ fn take_line<'a, A: Allocator>(
     }
 }
 
-impl<'a, A: Allocator> RouteValues<'a, A> {
+impl<'a> RouteValues<'a> {
     ghost use Rattle.std.specs.Prelude.{◌≡◌, [], ◌∷◌, IfSome, IfNone};
     ghost use Rattle.sip_route.specs.RouteValues.{route_values};
 
     /// All Route values of a message.
-    fn of(message: &'a Message<A>) -> RouteValues<'a, A>
+    fn of<A: Allocator>(message: &'a Message<A>) -> RouteValues<'a>
         ensures { result ≡ route_values message.now }
     {
         RouteValues {

@@ -27,7 +27,8 @@ pub use Rattle.sip_text.specs.Name.{same_name, values_of}
 pub use Rattle.sip_text.specs.Reading.{BadCSeq, BadHeader, BadLength, BadStart, BadStatus, BadVersion, Fault, Group, Headers, Lacks, Lines, Short, after_uri, before_group, begins_with_sip, begins_with_space, closed, header_of, header_of_cut}
 pub use Rattle.sip_text.specs.Reading.{headers_at, is_printed, is_status, is_uri, is_version, joined, lines_at, lines_from, number_of, part_text, request_of, response_of, skip, start_of, status_of, tail_at, tail_of_group, tail_of_lines, with_header}
 pub use Rattle.sip_text.specs.Reading.{with_line}
-pub use Rattle.sip_text.specs.Seen.{view, view_start, views}
+pub use Rattle.sip_text.specs.Change.{valued_at, with_part_at, with_value_at, without_line_at}
+pub use Rattle.sip_text.specs.Seen.{header_in, headers_in, part_at, start_in, view_line, view_lines, view_start, views}
 pub use Rattle.sip_text.specs.StartFaults.{HasStartFault}
 pub use Rattle.sip_text.specs.Tag.{tag_of_params}
 pub use Rattle.sip_text.specs.Text.{HeaderText, MessageText, Request, Response, StartText, header_text, pieces_text, saturated, start_line, status_text}

@@ -1,5 +1,5 @@
 -- Cutting at the first byte that passes a test.
-use Rattle.sip_text.proofs.Common.{◌≡◌, ℕ, Bool, true, false, List, [], ◌∷◌, ◌++◌, Option, Some, None, refl, ap, ◌∙◌, AllByRecursion, cond_both, cond-true, cond-false, cut, common_steps, arith}
+use Rattle.sip_text.proofs.Common.{◌≡◌, ℕ, Bool, true, false, List, [], ◌∷◌, ◌++◌, Option, Some, None, refl, ap, ◌∙◌, AllByRecursion, cond-true, cond-false, cut, arith}
 
 abbrev pub Cut : Type 0
 Cut = List ℕ × Option (List ℕ)

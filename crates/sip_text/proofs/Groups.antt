@@ -1,6 +1,6 @@
 -- Lines as headers, by the relation and by the function.
-use Rattle.sip_text.proofs.Common.{◌≡◌, ℕ, Bool, true, false, List, [], ◌∷◌, ◌++◌, map, Option, Some, None, refl, sym, ap, subst, ◌∙◌, inl, inr, flat_map, AllByRecursion, cases_Bool, cond-true, cond-false, false_from_ne_true, is_token, trim}
-use Rattle.sip_text.proofs.Common.{trim_end, cut, is, behind, cut_joins, cut_lacks, AreHeaders, IsHeader, Group, before_group, begins_with_space, header_of, header_of_cut, joined, part_text, with_header, HeaderText, rules, common_steps, arith}
+use Rattle.sip_text.proofs.Common.{◌≡◌, ℕ, Bool, true, false, List, [], ◌∷◌, ◌++◌, map, Option, Some, None, refl, sym, ap, subst, ◌∙◌, inl, inr, flat_map, AllByRecursion, cases_Bool, cond-true, cond-false, false_from_ne_true, trim}
+use Rattle.sip_text.proofs.Common.{trim_end, cut, is, behind, cut_joins, cut_lacks, AreHeaders, IsHeader, Group, before_group, begins_with_space, header_of, header_of_cut, joined, part_text, with_header, HeaderText, rules, arith}
 use Rattle.sip_lex.specs.Cut.{Lacks}
 use Rattle.sip_lex.proofs.laws.Cuts.{cut_again}
 use Rattle.sip_text.specs.Reading.{grouped}

@@ -1,8 +1,8 @@
 -- The values of a message's headers, and parts of them.
-use Rattle.sip_text.proofs.Common.{◌≡◌, ℕ, true, List, [], ◌∷◌, ◌++◌, refl, sym, ◌∙◌, list_all, and_parts, cond_both, list_all-append, is_token, trim, IsMessage, is_header, is_line, is_line_byte, is_trimmed, is_value, same_name, HeaderText}
+use Rattle.sip_text.proofs.Common.{◌≡◌, ℕ, true, List, [], ◌∷◌, ◌++◌, refl, list_all, and_parts, is_token, trim, IsMessage, is_header, is_value, HeaderText}
 use Rattle.sip_text.proofs.Common.{MessageText, common_steps, arith}
 use Rattle.sip_text.specs.Name.{values_of}
-use Rattle.sip_text.proofs.laws.Good.{all_trim, and_both, trim_trimmed}
+use Rattle.sip_text.proofs.laws.Good.{all_trim, trim_trimmed}
 
 values_good : (name : List ℕ) (hs : List HeaderText) → list_all is_header hs ≡ true → list_all is_value (values_of name hs) ≡ true
 unfolding values_of

@@ -1,5 +1,5 @@
 -- What reading answered, by the relation.
-use Rattle.sip_text.proofs.Common.{ℕ, List, Result, Ok, Err, sym, subst, ◌∙◌, FailsAs, Gives, fault_seen, IsText, read_at, Fault, MessageText, common_steps, arith}
+use Rattle.sip_text.proofs.Common.{ℕ, List, Result, Ok, Err, sym, subst, ◌∙◌, FailsAs, Gives, fault_seen, IsText, read_at, Fault, MessageText, arith}
 use Rattle.std.specs.Prelude.{IfOk}
 use Rattle.sip_text.specs.declared.fault.ReadFault.{ReadFault}
 use Rattle.sip_text.proofs.laws.Whole.{text_found, text_read}

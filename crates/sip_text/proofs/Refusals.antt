@@ -1,9 +1,8 @@
 -- Texts that are refused, by the relation and by the function.
-use Rattle.sip_text.proofs.Common.{◌≡◌, ◌≢◌, ℕ, ◌<◌, ◌≤◌, false, cond, eqb, leb, List, [], ◌∷◌, ◌++◌, length, take, get_or, Option, Some, None, Result, Ok, Err, refl, sym, ap, subst, ◌∙◌, inl, inr, arith, ◌&&◌, join_with_byte, cases_Bool, cond_both}
-use Rattle.sip_text.proofs.Common.{cond-true, cond-false, false_from_ne_true, false≢true, leb-true, ended, line_at, pieces, line_at-again, line_at-takes, BodyLength, Unsaid, Bytes, Wrong, Needed, cseq_fits, missing, said_length, blank_lines}
+use Rattle.sip_text.proofs.Common.{◌≡◌, ◌≢◌, ℕ, ◌<◌, cond, eqb, List, [], ◌∷◌, ◌++◌, length, get_or, Option, Some, None, Result, Ok, Err, refl, sym, ap, subst, ◌∙◌, inl, inr, arith, ◌&&◌, join_with_byte, cases_Bool, cond_both}
+use Rattle.sip_text.proofs.Common.{cond-true, cond-false, false≢true, ended, line_at, pieces, line_at-again, line_at-takes, BodyLength, Bytes, Wrong, Needed, cseq_fits, missing, said_length}
 use Rattle.sip_text.proofs.Common.{after_headers, after_line, after_start, head_of, if_present, Fault, BadStart, BadHeader, Lacks, BadVersion, BadStatus, Short, BadCSeq, BadLength, Headers, headers_at, skip, start_of, HasStartFault, HeaderText}
-use Rattle.sip_text.proofs.Common.{MessageText, StartText, common_steps}
-use Rattle.std.proofs.lemmas.Bool.{leb-false}
+use Rattle.sip_text.proofs.Common.{MessageText, StartText}
 use Rattle.sip_text.specs.Message.{body_at, checked, read_at}
 use Rattle.sip_text.specs.Refusal.{Begins, FirstLine, HasFields, HasHead, HasHeaders, IsRefused}
 use Rattle.sip_text.proofs.laws.Good.{found, some_is}

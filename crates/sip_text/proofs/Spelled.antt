@@ -1,10 +1,8 @@
 -- A message's spelling is a text of it.
-use Rattle.sip_text.proofs.Common.{◌≡◌, ◌≢◌, ℕ, ◌+◌, ◌-◌, ◌/◌, ◌%◌, ◌≤◌, Bool, true, false, not, eqb, leb, ltb, List, [], ◌∷◌, ◌++◌, length, map, drop, reverse, Ok, refl, sym, ap, ◌∙◌, arith, codes, flat_map, list_all, prefix_len, suffix_len}
-use Rattle.sip_text.proofs.Common.{AllByRecursion, and_parts, cond-false, eq-eqb, eqb-true, false_from_ne_true, false≢true, le-leb, append-nil, length-append, list_all-append, is_space, is_token, is_token_byte, trim, trim_end, trim_start, IsLine}
-use Rattle.sip_text.proofs.Common.{ended, pieces, token_bytes, trim-space, BodyLength, Unsaid, Bytes, Wrong, said_length, AreHeaders, IsBody, IsFull, IsHeader, IsStartLine, IsText, IsMessage, fits_body, is_header, is_line, is_line_byte, is_start}
-use Rattle.sip_text.proofs.Common.{is_trimmed, is_value, read_at, begins_with_space, is_printed, is_status, is_uri, HeaderText, MessageText, StartText, Request, Response, header_text, start_line, status_text, common_steps}
-use Rattle.std.proofs.lemmas.Bool.{not-true}
-use Rattle.std.proofs.lemmas.List.{take_all}
+use Rattle.sip_text.proofs.Common.{◌≡◌, ◌≢◌, ℕ, Bool, true, false, ltb, List, [], ◌∷◌, ◌++◌, length, map, Ok, refl, ap, arith, codes, flat_map, list_all}
+use Rattle.sip_text.proofs.Common.{AllByRecursion, and_parts, length-append, is_token, is_token_byte, IsLine}
+use Rattle.sip_text.proofs.Common.{ended, pieces, token_bytes, trim-space, BodyLength, said_length, AreHeaders, IsBody, IsFull, IsHeader, IsStartLine, IsText, IsMessage, fits_body, is_header, is_line, is_line_byte, is_start}
+use Rattle.sip_text.proofs.Common.{read_at, is_printed, is_status, is_uri, HeaderText, MessageText, StartText, Request, Response, header_text, start_line, common_steps}
 use Rattle.sip_lex.proofs.laws.Cuts.{Lacks-pass}
 use Rattle.sip_lex.proofs.laws.Trims.{token_lacks, trim_end-token}
 use Rattle.sip_text.specs.Text.{header_line, spelling}

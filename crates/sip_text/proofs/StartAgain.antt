@@ -1,10 +1,9 @@
 -- Start lines that are spelled so are read.
-use Rattle.sip_text.proofs.Common.{◌≡◌, ℕ, ◌+◌, ◌/◌, ◌%◌, ◌≤◌, Bool, true, false, cond, eqb, leb, ltb, List, [], ◌∷◌, ◌++◌, length, take, map, get_or, Some, Result, Ok, Err, refl, sym, ap, subst, ◌∙◌, inl, inr, arith, ◌&&◌, codes, is_ascii_digit}
-use Rattle.sip_text.proofs.Common.{list_all, AllByRecursion, bytes_eq, str_to_ascii_lowercase, and_parts, cond_both, cond-true, cond-false, false_from_ne_true, false≢true, eqb-true, le-leb, leb-true, bytes_eq-Decides, is_space, is_token}
-use Rattle.sip_text.proofs.Common.{is_token_byte, cut, token_bytes, token_byte-space, IsStartLine, Fault, BadStatus, after_uri, begins_with_sip, is_printed, is_status, is_uri, is_version, number_of, request_of, response_of, status_of, StartText}
+use Rattle.sip_text.proofs.Common.{◌≡◌, ℕ, ◌+◌, ◌/◌, ◌%◌, ◌≤◌, Bool, true, false, ltb, List, [], ◌∷◌, ◌++◌, length, take, map, get_or, Some, Ok, refl, sym, ap, ◌∙◌, arith, codes}
+use Rattle.sip_text.proofs.Common.{list_all, AllByRecursion, bytes_eq, str_to_ascii_lowercase, and_parts, cond-true, cond-false, false_from_ne_true, false≢true, bytes_eq-Decides, is_space, is_token}
+use Rattle.sip_text.proofs.Common.{is_token_byte, cut, token_bytes, token_byte-space, IsStartLine, after_uri, begins_with_sip, is_printed, is_status, is_uri, is_version, number_of, request_of, response_of, status_of, StartText}
 use Rattle.sip_text.proofs.Common.{Request, Response, status_text, common_steps}
 use Rattle.std.specs.Char.{to_ascii_lowercase}
-use Rattle.std.proofs.lemmas.Bool.{ltb-false, or_cases}
 use Rattle.sip_text.specs.Grammar.{IsRequestLine, IsStatusLine}
 use Rattle.sip_text.specs.Reading.{start_of}
 use Rattle.sip_text.proofs.Gaps.{cut_again_at}

@@ -1,12 +1,11 @@
 -- The faults of a first line, by their statements and by the function.
-use Rattle.sip_text.proofs.Common.{◌≡◌, ℕ, ◌+◌, ◌/◌, ◌%◌, ◌<◌, true, false, cond, List, [], ◌∷◌, ◌++◌, get_or, Some, None, Result, Ok, Err, refl, sym, ap, subst, ◌∙◌, inl, inr, arith, ◌&&◌, codes, is_ascii_digit, bytes_eq, and_parts, cond_both}
+use Rattle.sip_text.proofs.Common.{◌≡◌, ℕ, ◌+◌, ◌/◌, ◌%◌, ◌<◌, true, false, cond, List, [], ◌∷◌, ◌++◌, Some, None, Result, Ok, Err, refl, sym, ap, subst, ◌∙◌, inl, inr, arith, ◌&&◌, codes, is_ascii_digit, and_parts, cond_both}
 use Rattle.sip_text.proofs.Common.{cond-true, cond-false, bytes_eq-Decides, is_space, is_token, cut, Fault, BadStart, BadHeader, Lacks, BadVersion, BadStatus, Short, BadCSeq, BadLength, after_uri, begins_with_sip, is_status, is_uri, is_version}
-use Rattle.sip_text.proofs.Common.{number_of, request_of, response_of, status_of, HasStartFault, StartText, Request, Response, status_text, common_steps}
+use Rattle.sip_text.proofs.Common.{number_of, request_of, response_of, status_of, HasStartFault, StartText, Request, Response, status_text}
 use Rattle.sip_text.specs.Reading.{start_of}
 use Rattle.sip_text.specs.StartFaults.{HasBadStatus, HasOtherVersion, IsRequestVersion, IsWord}
 use Rattle.sip_text.proofs.Gaps.{Cut, JoinsAt, cut_again_at, cut_joins_at}
-use Rattle.sip_text.proofs.laws.Good.{and_both}
-use Rattle.sip_text.proofs.StartAgain.{gap_differs, is_sip, lowered_front, start_again, version_apart, version_begins}
+use Rattle.sip_text.proofs.StartAgain.{is_sip, lowered_front, start_again, version_apart, version_begins}
 use Rattle.sip_text.proofs.StartLines.{digit_range, digits_text, start_found}
 
 -- ---- words

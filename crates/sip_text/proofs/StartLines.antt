@@ -1,10 +1,9 @@
 -- Start lines, read and spelled.
-use Rattle.sip_text.proofs.Common.{◌≡◌, ℕ, ◌+◌, ◌/◌, ◌%◌, ◌≤◌, true, leb, List, [], ◌∷◌, ◌++◌, Option, Some, None, Result, Ok, Err, refl, sym, ap, subst, ◌∙◌, inl, inr, arith, ◌&&◌, is_ascii_digit, and_parts, cases_Bool, cond-true, cond-false}
-use Rattle.sip_text.proofs.Common.{leb-true, is_space, is_token, cut, IsStartLine, is_line, is_start, Fault, BadStart, BadStatus, BadVersion, after_uri, begins_with_sip, is_status, is_uri, is_version, number_of, request_of, response_of, status_of}
-use Rattle.sip_text.proofs.Common.{StartText, Request, Response, status_text, common_steps, rules}
+use Rattle.sip_text.proofs.Common.{◌≡◌, ℕ, ◌≤◌, true, leb, List, [], ◌∷◌, ◌++◌, Option, Result, Ok, Err, arith, is_ascii_digit, and_parts}
+use Rattle.sip_text.proofs.Common.{leb-true, is_space, IsStartLine, is_line, is_start, Fault, after_uri, is_status, is_version, number_of, request_of, response_of, status_of}
+use Rattle.sip_text.proofs.Common.{StartText, Response, status_text, common_steps, rules}
 use Rattle.sip_text.specs.Reading.{after_version, start_of}
 use Rattle.sip_text.proofs.Gaps.{Cut, JoinsAt, cut_joins_at}
-use Rattle.sip_text.proofs.laws.Good.{and_both, behind_line}
 
 abbrev pub done : {A : Type 0} → A → Result A Fault
 done x = Ok x

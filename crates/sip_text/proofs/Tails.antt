@@ -1,13 +1,12 @@
 -- The lines of a text, one by one.
-use Rattle.sip_text.proofs.Common.{◌≡◌, ℕ, zero, suc, ◌-◌, true, false, cond, eqb, List, [], ◌∷◌, ◌++◌, length, take, Option, Some, None, Ok, Err, refl, sym, ap, subst, ◌∙◌, append_assoc, arith, list_all, flat_map, suffix_len, and_parts, cond_both}
-use Rattle.sip_text.proofs.Common.{cond-true, cond-false, eqb-true, false_from_ne_true, false≢true, append-nil, is_space, is_token, is_token_byte, trim, cut, is, ended, line_at, line_in, pieces, line_at-takes, token_byte-space, token_bytes}
-use Rattle.sip_text.proofs.Common.{trim-space, FailsAs, continued, or_bad, prepended, valued, with_part, Fault, BadHeader, Group, Headers, Lines, before_group, begins_with_space, closed, header_of, header_of_cut, joined, lines_from, tail_of_group}
-use Rattle.sip_text.proofs.Common.{tail_of_lines, with_header, with_line, HeaderText, common_steps, rules}
+use Rattle.sip_text.proofs.Common.{◌≡◌, ℕ, true, false, cond, List, [], ◌∷◌, ◌++◌, length, take, Option, Some, None, Ok, Err, sym, ap, ◌∙◌, arith}
+use Rattle.sip_text.proofs.Common.{is_space, is_token, trim, cut, is, ended, line_at, pieces}
+use Rattle.sip_text.proofs.Common.{trim-space, FailsAs, continued, or_bad, prepended, valued, with_part, Fault, BadHeader, Group, Headers, Lines, before_group, begins_with_space, closed, header_of, header_of_cut, lines_from, tail_of_group}
+use Rattle.sip_text.proofs.Common.{tail_of_lines, HeaderText, common_steps, rules}
 use Rattle.sip_lex.specs.Line.{line_at_cut}
-use Rattle.sip_lex.specs.Line as lines
 use Rattle.sip_lex.specs.Pieces.{pieces_behind}
 use Rattle.sip_lex.proofs.laws.Splits.{pieces-cut}
-use Rattle.sip_text.specs.inner.Heads.{Valued, front_header, put, put_if_any}
+use Rattle.sip_text.specs.inner.Heads.{Valued, front_header, put}
 use Rattle.sip_text.specs.Reading.{Tail, grouped, headers_at, lines_at, tail_at}
 
 abbrev Cut : Type 0

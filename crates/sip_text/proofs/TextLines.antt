@@ -1,6 +1,6 @@
 -- The lines of a text up to the empty one, by the whole text.
-use Rattle.sip_text.proofs.Common.{◌≡◌, ◌≢◌, ℕ, zero, suc, ◌<◌, List, [], ◌∷◌, ◌++◌, length, Option, Some, None, refl, sym, ap, subst, ◌∙◌, arith, append_assoc, flat_map, AllByRecursion, length-append, IsLine, ended, line_at, pieces, line_at-again}
-use Rattle.sip_text.proofs.Common.{line_at-takes, IsFull, Lines, lines_at, lines_from, with_line, common_steps}
+use Rattle.sip_text.proofs.Common.{◌≡◌, ◌≢◌, ℕ, zero, suc, ◌<◌, List, [], ◌∷◌, ◌++◌, length, Option, Some, None, refl, sym, ap, subst, ◌∙◌, arith, flat_map, AllByRecursion, length-append, IsLine, ended, line_at, pieces, line_at-again}
+use Rattle.sip_text.proofs.Common.{line_at-takes, IsFull, Lines, lines_at, with_line, common_steps}
 use Rattle.sip_lex.proofs.laws.Lines.{TakesLine}
 use Rattle.sip_text.proofs.laws.Good.{some_is}
 use Rattle.sip_text.proofs.Tails.{Front, lines_at-line, lines_front}

@@ -7,6 +7,7 @@ pub mod Fields
 pub mod Tag
 pub mod Message
 pub mod Seen
+pub mod Change
 pub mod Fault
 pub mod Grammar
 pub mod StartFaults

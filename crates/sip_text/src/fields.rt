@@ -1,51 +1,22 @@
 //! The header fields that reading looks at.
 
 ghost use Rattle.std.specs.Prelude.{◌≡◌};
-ghost use Rattle.std.specs.List.{list_all};
 ghost use Rattle.std.specs.Option.{option_copied};
-ghost use Rattle.sip_text.specs.Fields.{cseq_fits, cseq_of, has_method, is_missing, length_number, message_cseq, missing, said_length, says, value_of};
+ghost use Rattle.sip_text.specs.Fields.{cseq_in, cseq_of, fits_start, has_method, length_number, message_cseq, says, value_of};
 ghost use Rattle.sip_text.specs.Seen.{view_cseq, view_start, views};
 ghost use Rattle.sip_text.specs.inner.Seen.{seen_cseq};
 
+use crate::header_lines::HeaderLines;
 use crate::name::Values;
 use crate::needed::Needed;
-use crate::parts::{CSeqLine, Header, Start};
+use crate::parts::{CSeqLine, StartLine};
 use sip_lex::{cut_at_space, is_token, read_number, trim_start};
-use std::alloc::Allocator;
 
 /// The value of the first header of that name.
-pub fn value_of<'a, A: Allocator>(which: Needed, headers: &'a [Header<A>]) -> Option<&'a [u8]>
-    ensures { option_copied result ≡ value_of which (views headers.now) }
+pub fn value_of<'a>(which: Needed, headers: HeaderLines<'a>) -> Option<&'a [u8]>
+    ensures { option_copied result ≡ value_of which (views headers.entry) }
 {
     Values::new(which.name(), headers).next()
-}
-
-fn is_missing<A: Allocator>(which: Needed, headers: &[Header<A>]) -> bool
-    ensures { result ≡ is_missing which (views headers.now) }
-{
-    value_of(which, headers).is_none()
-}
-
-/// The first of the five that every message has and that is missing here.
-pub fn missing<A: Allocator>(headers: &[Header<A>]) -> Option<Needed>
-    ensures { result ≡ missing (views headers.now) }
-{
-    if is_missing(Needed::Via, headers) {
-        return Some(Needed::Via);
-    }
-    if is_missing(Needed::From, headers) {
-        return Some(Needed::From);
-    }
-    if is_missing(Needed::To, headers) {
-        return Some(Needed::To);
-    }
-    if is_missing(Needed::CallId, headers) {
-        return Some(Needed::CallId);
-    }
-    if is_missing(Needed::CSeq, headers) {
-        return Some(Needed::CSeq);
-    }
-    None
 }
 
 /// What a CSeq value says.
@@ -62,27 +33,30 @@ fn cseq_of(value: &[u8]) -> Option<CSeqLine<'_>>
 }
 
 /// What the first CSeq says.
-pub fn message_cseq<A: Allocator>(headers: &[Header<A>]) -> Option<CSeqLine<'_>>
-    ensures { seen_cseq result ≡ message_cseq (views headers.now) }
+pub fn message_cseq(headers: HeaderLines<'_>) -> Option<CSeqLine<'_>>
+    ensures { seen_cseq result ≡ message_cseq (views headers.entry) }
 {
     cseq_of(value_of(Needed::CSeq, headers)?)
 }
 
 /// Whether a message that begins so may have that CSeq.
-fn has_method<A: Allocator>(start: &Start<A>, cseq: CSeqLine<'_>) -> bool
-    ensures { result ≡ has_method (view_start start.now) (view_cseq cseq.entry) }
+fn has_method(start: StartLine<'_>, cseq: CSeqLine<'_>) -> bool
+    ensures { result ≡ has_method (view_start start.entry) (view_cseq cseq.entry) }
 {
     match start {
-        Start::Request { method, .. } => cseq.method == method.as_slice(),
-        Start::Response { .. } => true,
+        StartLine::Request { method, .. } => cseq.method == method,
+        StartLine::Response { .. } => true,
     }
 }
 
-/// Whether the first CSeq is one, and that of the request's method.
-pub fn cseq_fits<A: Allocator>(start: &Start<A>, headers: &[Header<A>]) -> bool
-    ensures { result ≡ cseq_fits (view_start start.now) (views headers.now) }
+/// Whether the value of the first CSeq line says that of the request's method.
+pub fn cseq_fits(start: StartLine<'_>, value: Option<&[u8]>) -> bool
+    ensures { result ≡ fits_start (view_start start.entry) (cseq_in (option_copied value.entry)) }
 {
-    match message_cseq(headers) {
+    let Some(value) = value else {
+        return false;
+    };
+    match cseq_of(value) {
         None => false,
         Some(cseq) => has_method(start, cseq),
     }
@@ -103,7 +77,7 @@ pub enum BodyLength {
 }
 
 /// The number of one to nine digits.
-fn length_number(value: &[u8]) -> Option<u64>
+pub fn length_number(value: &[u8]) -> Option<u64>
     ensures { result ≡ length_number value.now }
 {
     if value.len() > 9 {
@@ -112,41 +86,11 @@ fn length_number(value: &[u8]) -> Option<u64>
     read_number(value, 999_999_999)
 }
 
-fn says(n: u64, value: &[u8]) -> bool
+pub fn says(n: u64, value: &[u8]) -> bool
     ensures { result ≡ says n value.now }
 {
     match length_number(value) {
         None => false,
         Some(m) => n == m,
-    }
-}
-
-/// Whether each of the values left says that length.
-fn all_say<A: Allocator>(n: u64, mut values: Values<'_, '_, A>) -> bool
-    ensures { result ≡ list_all (says n) values.entry }
-{
-    while let Some(value) = values.next() {
-        if !says(n, value) {
-            return false;
-        }
-    }
-    true
-}
-
-/// What the Content-Length headers say (RFC 3261 section 20.14).
-pub fn said_length<A: Allocator>(headers: &[Header<A>]) -> BodyLength
-    ensures { result ≡ said_length (views headers.now) }
-{
-    let mut values = Values::new(LENGTH_NAME, headers);
-    let Some(first) = values.next() else {
-        return BodyLength::Unsaid;
-    };
-    let Some(n) = length_number(first) else {
-        return BodyLength::Wrong;
-    };
-    if all_say(n, values) {
-        BodyLength::Bytes(n)
-    } else {
-        BodyLength::Wrong
     }
 }

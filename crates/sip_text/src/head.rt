@@ -1,17 +1,19 @@
 //! The header lines.
 
-ghost use Rattle.std.specs.Prelude.{◌≡◌, ◌≤◌, [], length, IfOk, IfErr, Some, false};
+ghost use Rattle.std.specs.Prelude.{◌≡◌, ◌+◌, ◌≤◌, [], drop, length, option_map, take, IfOk, IfErr, IfSome, OnOk, Some, false};
 ghost use Rattle.sip_lex.specs.Bytes.{trim};
 ghost use Rattle.sip_lex.specs.Pieces.{pieces};
 ghost use Rattle.sip_text.specs.Fault.{Fails, Gives};
-ghost use Rattle.sip_text.specs.inner.Heads.{continued, front_header, or_bad, put, valued};
-ghost use Rattle.sip_text.specs.Reading.{begins_with_space, headers_at, tail_at};
-ghost use Rattle.sip_text.specs.Seen.{view, views};
+ghost use Rattle.sip_text.specs.inner.Heads.{continued, front_header, or_bad, put, valued, with_part};
+ghost use Rattle.sip_text.specs.inner.Kept.{AreLinesWithin, IsAt, IsEnd, IsLineWithin, IsWithin};
+ghost use Rattle.sip_text.specs.Reading.{begins_with_space, header_of, headers_at, tail_at};
+ghost use Rattle.sip_text.specs.Seen.{header_in, headers_in, part_at};
 
 use crate::fault::ReadFault;
-use crate::parts::Header;
-use sip_lex::{cut_at, first_line, is_space, is_token, trim, trim_end};
-use std::alloc::Allocator;
+use crate::place::{LinePlaces, Place, part_at, place_at_end};
+use crate::write::append_pieces;
+use sip_lex::{cut_at, first_line, is_space, is_token, trim, trim_end, trim_start};
+use std::alloc::{AllocError, Allocator};
 
 fn begins_with_space(text: &[u8]) -> bool
     ensures { result ≡ begins_with_space text.now }
@@ -22,85 +24,151 @@ fn begins_with_space(text: &[u8]) -> bool
     }
 }
 
-/// The header without space at the end of its value, where none stands at the value's front.
-fn finish<A: Allocator>(mut header: Header<A>) -> Header<A>
-    requires { begins_with_space header.value ≡ false }
-    ensures { result ≡ record { name = header.name; value = trim header.value } }
+/// Where the name and the value of a header line stand in it; None where it has none.
+fn places_of(line: &[u8]) -> Option<LinePlaces>
+    ensures value { option_map (header_in line.now) result ≡ header_of line.now [] }
+    ensures within { IfSome result (λ places. IsLineWithin (length line.now) places) }
 {
-    let len = trim_end(header.value()).len();
-    header.keep_value_front(len);
-    header
+    let (front, raw) = cut_at(line, b':');
+    let raw = raw?;
+    let name = trim_end(front);
+    if !is_token(name) {
+        return None;
+    }
+    let rest = trim_start(raw);
+    let value = place_at_end(line, rest, trim_end(rest).len());
+    Some(LinePlaces {
+        name: Place {
+            start: 0,
+            len: name.len(),
+        },
+        value,
+    })
 }
 
-/// The header of a name, a value and the lines that continue it, and what stands behind them.
-fn with_lines<'a, A: Allocator + Clone>(
-    alloc: &A,
-    name: &[u8],
-    raw: &[u8],
-    text: &'a [u8],
-) -> Result<(Header<A>, &'a [u8]), ReadFault<A>>
-    ensures name { IfOk result (λ x. x.0.name ≡ name.now) }
-    ensures ok { IfOk result
-        (λ x. continued (trim raw.now) (tail_at text.now) ≡ valued x.0.value (headers_at x.1.now)) }
-    ensures err { IfErr result
-        (λ e. Fails e (or_bad (continued (trim raw.now) (tail_at text.now)))) }
-    ensures shorter { IfOk result (λ x. length x.1.now ≤ length text.now) }
+/// Adds a line that continues the value that stands at the end of a text, from `start` on, with one space between.
+fn append_part<A: Allocator>(
+    kept: &mut Vec<u8, A>,
+    start: usize,
+    part: &[u8],
+) -> Result<(), AllocError>
+    requires { start ≤ length kept.old.items }
+    ensures value { OnOk result (drop start kept.new.items ≡ with_part (drop start kept.old.items) part.now) }
+    ensures begins { OnOk result (take start kept.new.items ≡ take start kept.old.items) }
+    ensures longer { OnOk result (length kept.old.items ≤ length kept.new.items) }
 {
-    let mut header = Header::new(alloc.clone()?, name, trim(raw))?;
+    let gap: &[u8] = if kept.len() == start { b"" } else { b" " };
+    append_pieces(kept, &[gap, part])
+}
+
+/// Where the value that stands at the end of a text, from `start` on, stands without the space at its end; none stands
+/// at its front.
+fn trimmed_place(kept: &[u8], start: usize) -> Place
+    requires start { start ≤ length kept.now }
+    requires front { begins_with_space (drop start kept.now) ≡ false }
+    ensures value { part_at kept.now result ≡ trim (drop start kept.now) }
+    ensures within { IsWithin (length kept.now) result }
+{
+    let value = &kept[start..];
+    Place {
+        start,
+        len: trim_end(value).len(),
+    }
+}
+
+/// Appends a value with the lines that continue it to a text. Where it stands in the text, and what stands behind those
+/// lines.
+fn with_lines<'a, A: Allocator>(
+    kept: &mut Vec<u8, A>,
+    value: &[u8],
+    text: &'a [u8],
+) -> Result<(Place, &'a [u8]), ReadFault<A>>
+    requires { begins_with_space value.now ≡ false }
+    ensures begins { IfOk result (λ _. take (length kept.old.items) kept.new.items ≡ kept.old.items) }
+    ensures ok { IfOk result
+        (λ x. continued value.now (tail_at text.now) ≡ valued (part_at kept.new.items x.0) (headers_at x.1.now)) }
+    ensures err { IfErr result
+        (λ e. Fails e (or_bad (continued value.now (tail_at text.now)))) }
+    ensures within { IfOk result (λ x. IsWithin (length kept.new.items) x.0) }
+    ensures end { IfOk result (λ x. IsEnd text.now x.1.now) }
+{
+    let start = kept.len();
+    kept.extend_from_slice(value)?;
     let mut rest = text;
     while begins_with_space(rest) {
         let Some((line, after)) = first_line(rest) else {
             return Err(ReadFault::HeaderLine);
         };
-        header.append_part(trim(line))?;
+        append_part(kept, start, trim(line))?;
         rest = after;
     }
-    Ok((finish(header), rest))
+    Ok((trimmed_place(kept, start), rest))
 }
 
-/// The header that begins with a line, and what stands behind the lines that continue it.
-fn header_of<'a, A: Allocator + Clone>(
-    alloc: &A,
+/// The header line that begins with a line, which stands in the kept text from `at` on, and what stands behind the lines
+/// that continue it: `text` is what stands behind the line.
+fn header_of<'a, A: Allocator>(
+    kept: &mut Vec<u8, A>,
+    at: usize,
     line: &[u8],
     text: &'a [u8],
-) -> Result<(Header<A>, &'a [u8]), ReadFault<A>>
+) -> Result<(LinePlaces, &'a [u8]), ReadFault<A>>
+    requires place { at + length line.now ≤ length kept.old.items }
+    requires line { IsAt kept.old.items at line.now }
+    ensures begins { IfOk result (λ _. take (length kept.old.items) kept.new.items ≡ kept.old.items) }
     ensures ok { IfOk result
-        (λ x. front_header line.now (tail_at text.now) ≡ put (view x.0) (headers_at x.1.now)) }
+        (λ x. front_header line.now (tail_at text.now) ≡ put (header_in kept.new.items x.0) (headers_at x.1.now)) }
     ensures err { IfErr result
         (λ e. Fails e (or_bad (front_header line.now (tail_at text.now)))) }
-    ensures shorter { IfOk result (λ x. length x.1.now ≤ length text.now) }
+    ensures within { IfOk result (λ x. IsLineWithin (length kept.new.items) x.0) }
+    ensures end { IfOk result (λ x. IsEnd text.now x.1.now) }
 {
-    let (front, Some(raw)) = cut_at(line, b':') else {
+    let Some(places) = places_of(line) else {
         return Err(ReadFault::HeaderLine);
     };
-    let name = trim_end(front);
-    if !is_token(name) {
-        return Err(ReadFault::HeaderLine);
+    let moved = places.moved(at);
+    if !begins_with_space(text) {
+        return Ok((moved, text));
     }
-    with_lines(alloc, name, raw, text)
+    let (value, rest) = with_lines(kept, part_at(line, places.value), text)?;
+    Ok((
+        LinePlaces {
+            name: moved.name,
+            value,
+        },
+        rest,
+    ))
 }
 
-/// How many headers a list has room for before it grows.
-const HEADERS_AT_FIRST: usize = 8;
+/// How many headers a list has room for before it grows: more than most messages have.
+const HEADERS_AT_FIRST: usize = 16;
 
-/// The headers up to the empty line, and what stands behind it.
+/// Where the headers up to the empty line stand in the kept text, which begins as the whole text and of which `text` is the
+/// end, and what stands behind that line.
 pub fn headers_of<'a, A: Allocator + Clone>(
     alloc: &A,
+    kept: &mut Vec<u8, A>,
+    whole: &'a [u8],
     text: &'a [u8],
-) -> Result<(Vec<Header<A>, A>, &'a [u8]), ReadFault<A>>
-    ensures { Gives (λ x. (views x.0.items, pieces 10 x.1.now)) result (or_bad (headers_at text.now)) }
+) -> Result<(Vec<LinePlaces, A>, &'a [u8]), ReadFault<A>>
+    requires kept { kept.old.items ≡ whole.now }
+    requires end { IsEnd whole.now text.now }
+    ensures value { Gives (λ x. (headers_in kept.new.items x.0.items, pieces 10 x.1.now)) result (or_bad (headers_at text.now)) }
+    ensures begins { IfOk result (λ _. take (length whole.now) kept.new.items ≡ whole.now) }
+    ensures within { IfOk result (λ x. AreLinesWithin (length kept.new.items) x.0.items) }
+    ensures end { IfOk result (λ x. IsEnd whole.now x.1.now) }
 {
-    let mut headers = Vec::with_capacity(alloc.clone()?, HEADERS_AT_FIRST)?;
+    let mut lines = Vec::with_capacity(alloc.clone()?, HEADERS_AT_FIRST)?;
     let mut rest = text;
     loop {
         let Some((line, after)) = first_line(rest) else {
             return Err(ReadFault::HeaderLine);
         };
         if line.is_empty() {
-            return Ok((headers, after));
+            return Ok((lines, after));
         }
-        let (header, behind) = header_of(alloc, line, after)?;
-        headers.push(header)?;
+        let (places, behind) = header_of(kept, whole.len() - rest.len(), line, after)?;
+        lines.push(places)?;
         rest = behind;
     }
 }

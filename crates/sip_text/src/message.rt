@@ -2,81 +2,84 @@
 
 use crate::fault::ReadFault;
 use crate::fields::{message_cseq, value_of};
+use crate::header_lines::HeaderLines;
 use crate::method::Method;
 use crate::name::Values;
 use crate::needed::Needed;
-use crate::parts::{CSeqLine, Header, Start};
+use crate::parts::{CSeqLine, StartLine};
+use crate::place::{LinePlaces, Place, StartPlaces, part_at, start_in};
 use crate::read::read_all;
 use crate::tag::tag_of;
 use crate::write::append_message;
 use std::alloc::{AllocError, Allocator};
 use std::marker::Model;
 
-/// A message that stands by RFC 3261 section 7: all that is read as one, and all whose parts could
-/// be.
+/// A message that stands by RFC 3261 section 7: all that is read as one, and all whose header lines were
+/// changed to such as could be. It is one text, the text that it was read from, and the places of its
+/// parts in it; what was changed stands behind.
 #[derive(Drop)]
 pub struct Message<A: Allocator> {
-    start: Start<A>,
-    headers: Vec<Header<A>, A>,
-    body: Vec<u8, A>,
+    text: Vec<u8, A>,
+    start: StartPlaces,
+    lines: Vec<LinePlaces, A>,
+    body: Place,
 }
 
 impl<A: Allocator> Model for Message<A> {
     ghost use Rattle.sip_text.specs.Text.{MessageText};
-    ghost use Rattle.sip_text.specs.Message.{IsMessage};
-    ghost use Rattle.sip_text.specs.Seen.{view_start, views};
+    ghost use Rattle.sip_text.specs.inner.Kept.{IsKept, message_in};
 
     ghost Value = { MessageText };
 
-    ghost view = { λ m. record { start = view_start m.start; headers = views m.headers.items; body = m.body.items } };
+    ghost view = { λ m. message_in m.text.items m.start m.lines.items m.body };
 
-    ghost invariant = { λ m. IsMessage (record { start = view_start m.start; headers = views m.headers.items; body = m.body.items }) };
+    ghost invariant = { λ m. IsKept m.text.items m.start m.lines.items m.body };
 }
 
 impl<A: Allocator> Message<A> {
     ghost use Rattle.std.specs.Prelude.{◌≡◌, ◌+◌, ◌++◌, ◌≤◌, ◌<◌, IfOk, IsOk, OnOk, OnErr, Some, length, vec_capacity, vec_len};
     ghost use Rattle.std.specs.Option.{option_copied};
     ghost use Rattle.sip_text.specs.declared.needed.Needed.TheVariants.{CallId, From, To};
+    ghost use Rattle.sip_text.specs.Change.{with_part_at, with_value_at, without_line_at};
     ghost use Rattle.sip_text.specs.Fields.{message_cseq, value_of};
     ghost use Rattle.sip_text.specs.Message.{IsMessage};
+    ghost use Rattle.sip_text.specs.inner.Kept.{IsKept, message_in};
     ghost use Rattle.sip_text.specs.Method.{is_invite, known_method, stands_alone};
     ghost use Rattle.sip_text.specs.Name.{values_of};
     ghost use Rattle.sip_text.specs.Seen.{view_cseq, view_start, views};
     ghost use Rattle.sip_text.specs.Tag.{tag_in};
     ghost use Rattle.sip_text.specs.Text.{method_in, spelling, status_in};
 
-    /// The message of these parts, which have to be such as some text spells.
-    pub fn from_parts(start: Start<A>, headers: Vec<Header<A>, A>, body: Vec<u8, A>) -> Message<A>
-        requires { IsMessage (record { start = view_start start; headers = views headers.items; body = body.items }) }
-        ensures { result ≡ record { start = view_start start; headers = views headers.items; body = body.items } }
+    /// The message whose parts stand at such places of a text.
+    pub(crate) fn of_places(
+        text: Vec<u8, A>,
+        start: StartPlaces,
+        lines: Vec<LinePlaces, A>,
+        body: Place,
+    ) -> Message<A>
+        requires { IsKept text.items start lines.items body }
+        ensures { result ≡ message_in text.items start lines.items body }
     {
         Message {
+            text,
             start,
-            headers,
+            lines,
             body,
         }
     }
 
-    /// Shows that the parts are a message's, as `from_parts` asks of those who change some of them.
+    /// Shows that a message is one, as those who change a header line of it are asked for the changed one.
     pub fn is_message(&self)
         ensures { IsMessage self.now }
     {
         let _body = &self.body;
     }
 
-    /// The parts of the message, of which `from_parts` makes it again.
-    pub fn into_parts(self) -> (Start<A>, Vec<Header<A>, A>, Vec<u8, A>)
-        ensures parts { record { start = view_start result.0; headers = views result.1.items; body = result.2.items } ≡ self }
-        ensures message { IsMessage (record { start = view_start result.0; headers = views result.1.items; body = result.2.items }) }
-    {
-        (self.start, self.headers, self.body)
-    }
-
     /// The start line.
-    pub fn start(&self) -> &Start<A>
-        ensures { view_start result.now ≡ self.now.start }
+    pub fn start(&self) -> StartLine<'_>
+        ensures { view_start result ≡ self.now.start }
     {
-        &self.start
+        start_in(&self.text, self.start)
     }
 
     /// The method of a request (RFC 3261 section 7.1); None for a response.
@@ -84,8 +87,8 @@ impl<A: Allocator> Message<A> {
         ensures { option_copied result ≡ method_in self.now.start }
     {
         match self.start() {
-            Start::Request { method, .. } => Some(method.as_slice()),
-            Start::Response { .. } => None,
+            StartLine::Request { method, .. } => Some(method),
+            StartLine::Response { .. } => None,
         }
     }
 
@@ -94,8 +97,8 @@ impl<A: Allocator> Message<A> {
         ensures { result ≡ known_method self.now.start }
     {
         match self.start() {
-            Start::Request { method, .. } => Some(Method::named(method)),
-            Start::Response { .. } => None,
+            StartLine::Request { method, .. } => Some(Method::named(method)),
+            StartLine::Response { .. } => None,
         }
     }
 
@@ -125,31 +128,31 @@ impl<A: Allocator> Message<A> {
         ensures { result ≡ status_in self.now.start }
     {
         match self.start() {
-            Start::Request { .. } => None,
-            Start::Response { status, .. } => Some(*status),
+            StartLine::Request { .. } => None,
+            StartLine::Response { status, .. } => Some(status),
         }
     }
 
     /// The header lines, in order.
-    pub fn headers(&self) -> &[Header<A>]
-        ensures { views result.now ≡ self.now.headers }
+    pub fn headers(&self) -> HeaderLines<'_>
+        ensures { views result ≡ self.now.headers }
     {
-        self.headers.as_slice()
+        HeaderLines::new(&self.text, &self.lines)
     }
 
     /// The values of the header lines of that name, in order, in any case and in long or compact
     /// form. A value that holds several, as between commas, is one.
-    pub fn values<'a, 'n>(&'a self, name: &'n [u8]) -> Values<'a, 'n, A>
+    pub fn values<'a, 'n>(&'a self, name: &'n [u8]) -> Values<'a, 'n>
         ensures { result ≡ values_of name.now self.now.headers }
     {
-        Values::new(name, &self.headers)
+        Values::new(name, self.headers())
     }
 
     /// What the first CSeq says (RFC 3261 section 20.16). In a request its method is the request's.
     pub fn cseq(&self) -> CSeqLine<'_>
         ensures { message_cseq self.now.headers ≡ Some (view_cseq result) }
     {
-        match message_cseq(&self.headers) {
+        match message_cseq(HeaderLines::new(&self.text, &self.lines)) {
             Some(cseq) => cseq,
             None => unreachable!(),
         }
@@ -159,7 +162,7 @@ impl<A: Allocator> Message<A> {
     pub fn call_id(&self) -> &[u8]
         ensures { value_of CallId self.now.headers ≡ Some result.now }
     {
-        match value_of(Needed::CallId, &self.headers) {
+        match value_of(Needed::CallId, HeaderLines::new(&self.text, &self.lines)) {
             Some(value) => value,
             None => unreachable!(),
         }
@@ -169,21 +172,62 @@ impl<A: Allocator> Message<A> {
     pub fn from_tag(&self) -> Option<&[u8]>
         ensures { option_copied result ≡ tag_in (value_of From self.now.headers) }
     {
-        tag_of(value_of(Needed::From, &self.headers)?)
+        tag_of(value_of(Needed::From, self.headers())?)
     }
 
     /// The tag of the first To (RFC 3261 section 20.39), if it has one.
     pub fn to_tag(&self) -> Option<&[u8]>
         ensures { option_copied result ≡ tag_in (value_of To self.now.headers) }
     {
-        tag_of(value_of(Needed::To, &self.headers)?)
+        tag_of(value_of(Needed::To, self.headers())?)
     }
 
     /// The body.
     pub fn body(&self) -> &[u8]
         ensures { result.now ≡ self.now.body }
     {
-        self.body.as_slice()
+        part_at(&self.text, self.body)
+    }
+
+    /// Puts another value in the place of the one of a header line, whose name stays. It takes no memory as long as the values
+    /// that were put in since the message was read are 256 bytes at most.
+    ///
+    /// # Errors
+    ///
+    /// Only where the growth of the text is refused; the message is then unchanged.
+    pub fn set_value(&mut self, place: usize, value: &[u8]) -> Result<(), AllocError>
+        requires place { place < length self.old.headers }
+        requires message { IsMessage (with_value_at place value.now self.old) }
+        ensures ok { OnOk result (self.new ≡ with_value_at place value.now self.old) }
+        ensures err { OnErr result (self.new ≡ self.old) }
+    {
+        let start = self.text.len();
+        self.text.extend_from_slice(value)?;
+        let line = &mut self.lines[place];
+        line.value = Place {
+            start,
+            len: value.len(),
+        };
+        Ok(())
+    }
+
+    /// Keeps so many bytes of the value of a header line from a place in it on. It takes no memory.
+    pub fn keep_value_part(&mut self, place: usize, start: usize, len: usize)
+        requires place { place < length self.old.headers }
+        requires message { IsMessage (with_part_at place start len self.old) }
+        ensures { self.new ≡ with_part_at place start len self.old }
+    {
+        let line = &mut self.lines[place];
+        line.value = line.value.part(start, len);
+    }
+
+    /// Takes a header line away. It takes no memory.
+    pub fn remove_header(&mut self, place: usize)
+        requires place { place < length self.old.headers }
+        requires message { IsMessage (without_line_at place self.old) }
+        ensures { self.new ≡ without_line_at place self.old }
+    {
+        self.lines.remove(place);
     }
 
     /// Appends the text that spells the message: reading it gives the message back. `out` grows once
@@ -198,7 +242,12 @@ impl<A: Allocator> Message<A> {
         ensures room { vec_len out.old + length (spelling self.now) ≤ vec_capacity out.old → IsOk result }
         ensures full { OnErr result (vec_capacity out.old < vec_len out.old + length (spelling self.now)) }
     {
-        append_message(out, &self.start, &self.headers, &self.body)
+        append_message(
+            out,
+            start_in(&self.text, self.start),
+            HeaderLines::new(&self.text, &self.lines),
+            part_at(&self.text, self.body),
+        )
     }
 }
 
@@ -210,7 +259,9 @@ impl<A: Allocator + Clone> Message<A> {
     ghost use Rattle.sip_text.specs.Text.{MessageText};
 
     /// The message that a text spells (RFC 3261 sections 7 and 25.1). Empty lines before it are
-    /// skipped; what follows the body that Content-Length gives is dropped.
+    /// skipped; what follows the body that Content-Length gives is no part of it. It takes two allocations where it has
+    /// at most 16 header lines and none is continued: one of the text with 256 bytes more, and one of the places of the
+    /// header lines in it.
     ///
     /// # Errors
     ///

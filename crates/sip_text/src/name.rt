@@ -5,8 +5,7 @@ ghost use Rattle.std.specs.Option.{option_copied};
 ghost use Rattle.sip_text.specs.Name.{full_name, name_of_letter, same_name, values_of};
 ghost use Rattle.sip_text.specs.Seen.{views};
 
-use crate::parts::Header;
-use std::alloc::Allocator;
+use crate::header_lines::HeaderLines;
 use std::marker::Model;
 
 /// The name that a lower case letter is the compact form of (RFC 3261 section 7.3.3).
@@ -28,7 +27,7 @@ fn name_of_letter(letter: u8) -> Option<&'static [u8]>
 
 /// A name with its compact form written out.
 #[tactic(auto, unfolding(crate::specs::Name::full_name))]
-fn full_name(name: &[u8]) -> &[u8]
+pub fn full_name(name: &[u8]) -> &[u8]
     ensures { result.now ≡ full_name name.now }
 {
     match name {
@@ -49,18 +48,15 @@ pub fn same_name(a: &[u8], b: &[u8]) -> bool
 
 /// The value of the first header of that name, and the headers behind it.
 #[tactic(auto, using(crate::proofs::Steps::none_named))]
-fn split_named<'a, A: Allocator>(
-    name: &[u8],
-    headers: &'a [Header<A>],
-) -> Option<(&'a [u8], &'a [Header<A>])>
+fn split_named<'a>(name: &[u8], headers: HeaderLines<'a>) -> Option<(&'a [u8], HeaderLines<'a>)>
     ensures found { IfSome result
-        (λ p. values_of name.now (views headers.now) ≡ p.0.now ∷ values_of name.now (views p.1.now)) }
-    ensures none { IfNone result (values_of name.now (views headers.now) ≡ []) }
+        (λ p. values_of name.now (views headers.entry) ≡ p.0.now ∷ values_of name.now (views p.1)) }
+    ensures none { IfNone result (values_of name.now (views headers.entry) ≡ []) }
 {
     let mut rest = headers;
     while let Some((header, after)) = rest.split_first() {
-        if same_name(name, header.name()) {
-            return Some((header.value(), after));
+        if header.is_named(name) {
+            return Some((header.value, after));
         }
         rest = after;
     }
@@ -69,34 +65,34 @@ fn split_named<'a, A: Allocator>(
 
 /// The values of the header lines of one name, in order, each line's whole value.
 #[derive(Drop)]
-pub struct Values<'a, 'n, A: Allocator> {
-    headers: &'a [Header<A>],
+pub struct Values<'a, 'n> {
+    headers: HeaderLines<'a>,
     name: &'n [u8],
 }
 
-impl<'a, 'n, A: Allocator> Model for Values<'a, 'n, A> {
+impl<'a, 'n> Model for Values<'a, 'n> {
     ghost use Rattle.std.specs.Prelude.{List, ℕ};
     ghost use Rattle.sip_text.specs.Name.{values_of};
     ghost use Rattle.sip_text.specs.Seen.{views};
 
     ghost Value = { List (List ℕ) };
 
-    ghost view = { λ v. values_of v.name.now (views v.headers.now) };
+    ghost view = { λ v. values_of v.name.now (views v.headers) };
 }
 
-impl<'a, 'n, A: Allocator> Values<'a, 'n, A> {
+impl<'a, 'n> Values<'a, 'n> {
     ghost use Rattle.sip_text.specs.Name.{values_of};
     ghost use Rattle.sip_text.specs.Seen.{views};
 
     /// The values of that name.
-    pub fn new(name: &'n [u8], headers: &'a [Header<A>]) -> Values<'a, 'n, A>
-        ensures { result ≡ values_of name.now (views headers.now) }
+    pub fn new(name: &'n [u8], headers: HeaderLines<'a>) -> Values<'a, 'n>
+        ensures { result ≡ values_of name.now (views headers.entry) }
     {
         Values { headers, name }
     }
 }
 
-impl<'a, A: Allocator> Iterator for Values<'a, '_, A> {
+impl<'a> Iterator for Values<'a, '_> {
     ghost use Rattle.std.specs.Iterator.{YieldsFirstBy, item_count};
 
     type Item = &'a [u8];

@@ -1,110 +1,137 @@
 //! Reading a message.
 
-ghost use Rattle.std.specs.Prelude.{◌≡◌, ◌<◌, IfOk, map};
+ghost use Rattle.std.specs.Prelude.{◌≡◌, ◌∷◌, [], IfOk, length, map};
 ghost use Rattle.sip_text.specs.Fault.{Gives};
 ghost use Rattle.sip_text.specs.Fields.{said_length};
-ghost use Rattle.sip_text.specs.Message.{IsHead, IsMessage, body_at, head_of, read_at, zeroed};
-ghost use Rattle.sip_text.specs.Seen.{view, view_start, views};
+ghost use Rattle.sip_text.specs.Message.{IsHead, body_at, head_of, read_at, zeroed};
+ghost use Rattle.sip_text.specs.inner.Kept.{AreLinesWithin, IsLineWithin, IsStartWithin, IsWithin};
+ghost use Rattle.sip_text.specs.Seen.{header_in, headers_in, part_at, start_in};
 
 use crate::fault::ReadFault;
-use crate::fields::{BodyLength, LENGTH_NAME, cseq_fits, missing, said_length};
+use crate::fields::{BodyLength, LENGTH_NAME, cseq_fits};
+use crate::found::found_in;
 use crate::head::headers_of;
 use crate::message::Message;
 use crate::name::same_name;
-use crate::parts::{Header, Start};
+use crate::place::{LinePlaces, Place, StartPlaces, part_at, place_at_end, start_in};
 use crate::start::{skip, start_of};
 use sip_lex::first_line;
 use std::alloc::{AllocError, Allocator};
 
-/// Sets the value of a Content-Length to `0`.
-fn zeroed<A: Allocator>(mut header: Header<A>) -> Result<Header<A>, AllocError>
-    ensures { IfOk result (λ h. view h ≡ zeroed (view header)) }
+/// A header line whose value is the one at a place, which is `0`, where it is a Content-Length.
+fn zeroed(text: &[u8], line: LinePlaces, zero: Place) -> LinePlaces
+    requires zero { part_at text.now zero ≡ 48 ∷ [] }
+    requires zero_within { IsWithin (length text.now) zero }
+    requires within { IsLineWithin (length text.now) line }
+    ensures value { header_in text.now result ≡ zeroed (header_in text.now line) }
+    ensures still { IsLineWithin (length text.now) result }
 {
-    if same_name(LENGTH_NAME, header.name()) {
-        header.set_value(b"0")?;
+    if same_name(LENGTH_NAME, part_at(text, line.name)) {
+        LinePlaces {
+            name: line.name,
+            value: zero,
+        }
+    } else {
+        line
     }
-    Ok(header)
 }
 
-fn all_zeroed<A: Allocator + Clone>(
-    alloc: &A,
-    headers: Vec<Header<A>, A>,
-) -> Result<Vec<Header<A>, A>, AllocError>
-    ensures { IfOk result (λ v. views v.items ≡ map zeroed (views headers.items)) }
+/// Sets the value of each Content-Length to the one at a place, which is `0`.
+fn zero_all(text: &[u8], lines: &mut [LinePlaces], zero: Place)
+    requires zero { part_at text.now zero ≡ 48 ∷ [] }
+    requires zero_within { IsWithin (length text.now) zero }
+    requires within { AreLinesWithin (length text.now) lines.old }
+    ensures value { headers_in text.now lines.new ≡ map zeroed (headers_in text.now lines.old) }
+    ensures still { AreLinesWithin (length text.now) lines.new }
 {
-    let mut done = Vec::new(alloc.clone()?);
-    for header in headers {
-        done.push(zeroed(header)?)?;
+    for line in lines.iter_mut() {
+        *line = zeroed(text, *line, zero);
     }
-    Ok(done)
 }
 
 /// The message with an empty body, as a fault carries it.
-fn without_body<A: Allocator + Clone>(
-    alloc: &A,
-    start: Start<A>,
-    headers: Vec<Header<A>, A>,
+fn without_body<A: Allocator>(
+    mut text: Vec<u8, A>,
+    start: StartPlaces,
+    mut lines: Vec<LinePlaces, A>,
 ) -> Result<Message<A>, AllocError>
-    requires { IsHead (view_start start) (views headers.items) }
-    ensures { IfOk result (λ m. m ≡ head_of (view_start start) (views headers.items)) }
+    requires start { IsStartWithin (length text.items) start }
+    requires lines { AreLinesWithin (length text.items) lines.items }
+    requires head { IsHead (start_in text.items start) (headers_in text.items lines.items) }
+    ensures { IfOk result (λ m. m ≡ head_of (start_in text.items start) (headers_in text.items lines.items)) }
 {
-    let headers = all_zeroed(alloc, headers)?;
-    let body = Vec::new(alloc.clone()?);
-    Ok(Message::from_parts(start, headers, body))
+    let zero = Place {
+        start: text.len(),
+        len: 1,
+    };
+    text.extend_from_slice(b"0")?;
+    zero_all(&text, &mut lines, zero);
+    let body = Place { start: 0, len: 0 };
+    Ok(Message::of_places(text, start, lines, body))
 }
 
-/// The message with that body.
-fn with_body<A: Allocator + Clone>(
-    alloc: &A,
-    start: Start<A>,
-    headers: Vec<Header<A>, A>,
-    body: &[u8],
-) -> Result<Message<A>, AllocError>
-    requires { IsMessage (record { start = view_start start; headers = views headers.items; body = body.now }) }
-    ensures { IfOk result
-        (λ m. m ≡ record { start = view_start start; headers = views headers.items; body = body.now }) }
-{
-    let body = Vec::from_slice(alloc.clone()?, body)?;
-    Ok(Message::from_parts(start, headers, body))
-}
-
-/// The message with the first `n` bytes as its body.
+/// The message with the first `n` bytes of what stands behind its header lines as its body.
 #[tactic(auto, unfolding(crate::specs::Message::body_at))]
-fn said_body<A: Allocator + Clone>(
-    alloc: &A,
-    start: Start<A>,
-    headers: Vec<Header<A>, A>,
-    rest: &[u8],
+fn said_body<A: Allocator>(
+    text: Vec<u8, A>,
+    start: StartPlaces,
+    lines: Vec<LinePlaces, A>,
+    rest: Place,
     n: usize,
 ) -> Result<Message<A>, ReadFault<A>>
-    requires head { IsHead (view_start start) (views headers.items) }
-    requires said { said_length (views headers.items) ≡ BodyLength.Bytes n }
+    requires start { IsStartWithin (length text.items) start }
+    requires lines { AreLinesWithin (length text.items) lines.items }
+    requires rest { IsWithin (length text.items) rest }
+    requires head { IsHead (start_in text.items start) (headers_in text.items lines.items) }
+    requires said { said_length (headers_in text.items lines.items) ≡ BodyLength.Bytes n }
     ensures { Gives (λ m. m) result
-        (body_at (view_start start) (views headers.items) rest.now (BodyLength.Bytes n)) }
+        (body_at (start_in text.items start) (headers_in text.items lines.items) (part_at text.items rest) (BodyLength.Bytes n)) }
 {
-    if rest.len() < n {
-        return Err(ReadFault::ShortBody(without_body(alloc, start, headers)?));
+    if rest.len < n {
+        return Err(ReadFault::ShortBody(without_body(text, start, lines)?));
     }
-    Ok(with_body(alloc, start, headers, &rest[..n])?)
+    let body = Place {
+        start: rest.start,
+        len: n,
+    };
+    Ok(Message::of_places(text, start, lines, body))
 }
 
-/// The message with its body, of what stands behind the empty line.
+/// The message with its body, of what stands behind its header lines.
 #[tactic(auto, unfolding(crate::specs::Message::body_at))]
-fn body_of<A: Allocator + Clone>(
-    alloc: &A,
-    start: Start<A>,
-    headers: Vec<Header<A>, A>,
-    rest: &[u8],
+fn body_of<A: Allocator>(
+    text: Vec<u8, A>,
+    start: StartPlaces,
+    lines: Vec<LinePlaces, A>,
+    rest: Place,
+    said: BodyLength,
 ) -> Result<Message<A>, ReadFault<A>>
-    requires { IsHead (view_start start) (views headers.items) }
+    requires start { IsStartWithin (length text.items) start }
+    requires lines { AreLinesWithin (length text.items) lines.items }
+    requires rest { IsWithin (length text.items) rest }
+    requires head { IsHead (start_in text.items start) (headers_in text.items lines.items) }
+    requires said { said_length (headers_in text.items lines.items) ≡ said }
     ensures { Gives (λ m. m) result
-        (body_at (view_start start) (views headers.items) rest.now (said_length (views headers.items))) }
+        (body_at (start_in text.items start) (headers_in text.items lines.items) (part_at text.items rest) said) }
 {
-    match said_length(&headers) {
+    match said {
         BodyLength::Wrong => Err(ReadFault::Length),
-        BodyLength::Unsaid => Ok(with_body(alloc, start, headers, rest)?),
-        BodyLength::Bytes(n) => said_body(alloc, start, headers, rest, n as usize),
+        BodyLength::Unsaid => Ok(Message::of_places(text, start, lines, rest)),
+        BodyLength::Bytes(n) => said_body(text, start, lines, rest, n as usize),
     }
+}
+
+/// How many bytes the text of a message has room for behind it, so that a Via line that is marked with its source, and
+/// other short values, are put into it without memory.
+const ROOM: usize = 256;
+
+/// A copy of a text with room behind it.
+fn kept_text<A: Allocator + Clone>(alloc: &A, text: &[u8]) -> Result<Vec<u8, A>, AllocError>
+    ensures { IfOk result (λ kept. kept.items ≡ text.now) }
+{
+    let mut kept = Vec::with_capacity(alloc.clone()?, text.len().saturating_add(ROOM))?;
+    kept.extend_from_slice(text)?;
+    Ok(kept)
 }
 
 /// The message that a text is.
@@ -112,16 +139,22 @@ fn body_of<A: Allocator + Clone>(
 pub fn read_all<A: Allocator + Clone>(alloc: &A, text: &[u8]) -> Result<Message<A>, ReadFault<A>>
     ensures { Gives (λ m. m) result (read_at text.now) }
 {
-    let Some((line, rest)) = first_line(skip(text)) else {
+    let begin = skip(text);
+    let Some((line, rest)) = first_line(begin) else {
         return Err(ReadFault::StartLine);
     };
-    let start = start_of(alloc.clone()?, line)?;
-    let (headers, rest) = headers_of(alloc, rest)?;
-    if let Some(name) = missing(&headers) {
+    let places = start_of::<A>(line)?;
+    let start = places.moved(text.len() - begin.len());
+    let mut kept = kept_text(alloc, text)?;
+    let (lines, rest) = headers_of(alloc, &mut kept, text, rest)?;
+    let found = found_in(&kept, &lines);
+    if let Some(name) = found.missing() {
         return Err(ReadFault::Missing(name));
     }
-    if !cseq_fits(&start, &headers) {
+    if !cseq_fits(start_in(&kept, start), found.cseq(&kept)) {
         return Err(ReadFault::CSeq);
     }
-    body_of(alloc, start, headers, rest)
+    let said = found.length;
+    let rest = place_at_end(text, rest, rest.len());
+    body_of(kept, start, lines, rest, said)
 }

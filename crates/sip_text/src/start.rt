@@ -1,15 +1,16 @@
 //! The start line.
 
-ghost use Rattle.std.specs.Prelude.{◌≡◌, ◌==◌, ◌&&◌};
+ghost use Rattle.std.specs.Prelude.{◌≡◌, ◌≤◌, ◌==◌, ◌&&◌, IfOk, length};
 ghost use Rattle.std.specs.List.{list_all};
 ghost use Rattle.sip_lex.specs.Bytes.{is_space};
 ghost use Rattle.sip_lex.specs.Cut.{cut};
 ghost use Rattle.sip_text.specs.Fault.{Gives};
 ghost use Rattle.sip_text.specs.Reading.{after_uri, begins_with_sip, is_printed, is_uri, is_version, request_of, response_of, skip, start_of, status_of};
-ghost use Rattle.sip_text.specs.Seen.{view_start};
+ghost use Rattle.sip_text.specs.inner.Kept.{IsAt, IsEnd, IsStartWithin};
+ghost use Rattle.sip_text.specs.Seen.{start_in};
 
 use crate::fault::ReadFault;
-use crate::parts::Start;
+use crate::place::{Place, StartPlaces, place_at_end};
 use sip_lex::{cut_at_space, is_space, is_token};
 use std::alloc::Allocator;
 
@@ -44,8 +45,11 @@ fn is_uri(bytes: &[u8]) -> bool
     !bytes.is_empty() && are_printed(bytes)
 }
 
-fn status_of<A: Allocator>(alloc: A, rest: &[u8]) -> Result<Start<A>, ReadFault<A>>
-    ensures { Gives view_start result (status_of rest.now) }
+/// Where the parts of a status line stand in it; `rest` is what stands behind its version.
+fn status_of<A: Allocator>(line: &[u8], rest: &[u8]) -> Result<StartPlaces, ReadFault<A>>
+    requires { IsEnd line.now rest.now }
+    ensures value { Gives (start_in line.now) result (status_of rest.now) }
+    ensures within { IfOk result (λ places. IsStartWithin (length line.now) places) }
 {
     let [a, b, c, space, reason @ ..] = rest else {
         return Err(ReadFault::StartLine);
@@ -57,12 +61,14 @@ fn status_of<A: Allocator>(alloc: A, rest: &[u8]) -> Result<Start<A>, ReadFault<
     if !(100 <= status && status <= 699) {
         return Err(ReadFault::Status);
     }
-    let reason = Vec::from_slice(alloc, reason)?;
-    Ok(Start::Response { status, reason })
+    let reason = place_at_end(line, reason, reason.len());
+    Ok(StartPlaces::Response { status, reason })
 }
 
-fn response_of<A: Allocator>(alloc: A, line: &[u8]) -> Result<Start<A>, ReadFault<A>>
-    ensures { Gives view_start result (response_of (cut is_space line.now)) }
+/// Where the parts of a status line stand in it.
+fn response_of<A: Allocator>(line: &[u8]) -> Result<StartPlaces, ReadFault<A>>
+    ensures value { Gives (start_in line.now) result (response_of (cut is_space line.now)) }
+    ensures within { IfOk result (λ places. IsStartWithin (length line.now) places) }
 {
     let (version, rest) = cut_at_space(line);
     if !is_version(version) {
@@ -70,16 +76,21 @@ fn response_of<A: Allocator>(alloc: A, line: &[u8]) -> Result<Start<A>, ReadFaul
     }
     match rest {
         None => Err(ReadFault::StartLine),
-        Some(rest) => status_of(alloc, rest),
+        Some(rest) => status_of(line, rest),
     }
 }
 
-fn after_uri<A: Allocator + Clone>(
-    alloc: A,
+/// Where the parts of a request line stand in it; `rest` is what stands behind its method.
+fn after_uri<A: Allocator>(
+    line: &[u8],
     method: &[u8],
     rest: &[u8],
-) -> Result<Start<A>, ReadFault<A>>
-    ensures { Gives view_start result (after_uri method.now (cut is_space rest.now)) }
+) -> Result<StartPlaces, ReadFault<A>>
+    requires front { IsAt line.now 0 method.now }
+    requires size { length method.now ≤ length line.now }
+    requires end { IsEnd line.now rest.now }
+    ensures value { Gives (start_in line.now) result (after_uri method.now (cut is_space rest.now)) }
+    ensures within { IfOk result (λ places. IsStartWithin (length line.now) places) }
 {
     let (uri, version) = cut_at_space(rest);
     let Some(version) = version else {
@@ -94,36 +105,43 @@ fn after_uri<A: Allocator + Clone>(
     if !(is_token(method) && is_uri(uri)) {
         return Err(ReadFault::StartLine);
     }
-    let method = Vec::from_slice(alloc.clone()?, method)?;
-    let uri = Vec::from_slice(alloc, uri)?;
-    Ok(Start::Request { method, uri })
+    let method = Place {
+        start: 0,
+        len: method.len(),
+    };
+    let uri = place_at_end(line, rest, uri.len());
+    Ok(StartPlaces::Request { method, uri })
 }
 
-fn request_of<A: Allocator + Clone>(alloc: A, line: &[u8]) -> Result<Start<A>, ReadFault<A>>
-    ensures { Gives view_start result (request_of (cut is_space line.now)) }
+/// Where the parts of a request line stand in it.
+fn request_of<A: Allocator>(line: &[u8]) -> Result<StartPlaces, ReadFault<A>>
+    ensures value { Gives (start_in line.now) result (request_of (cut is_space line.now)) }
+    ensures within { IfOk result (λ places. IsStartWithin (length line.now) places) }
 {
     let (method, rest) = cut_at_space(line);
     match rest {
         None => Err(ReadFault::StartLine),
-        Some(rest) => after_uri(alloc, method, rest),
+        Some(rest) => after_uri(line, method, rest),
     }
 }
 
-/// The start line that a line is. One that begins with `SIP/` is a response's.
+/// Where the parts of the start line that a line is stand in it. One that begins with `SIP/` is a response's.
 #[tactic(auto, unfolding(crate::specs::Reading::start_of))]
-pub fn start_of<A: Allocator + Clone>(alloc: A, line: &[u8]) -> Result<Start<A>, ReadFault<A>>
-    ensures { Gives view_start result (start_of line.now) }
+pub fn start_of<A: Allocator>(line: &[u8]) -> Result<StartPlaces, ReadFault<A>>
+    ensures value { Gives (start_in line.now) result (start_of line.now) }
+    ensures within { IfOk result (λ places. IsStartWithin (length line.now) places) }
 {
     if begins_with_sip(line) {
-        response_of(alloc, line)
+        response_of(line)
     } else {
-        request_of(alloc, line)
+        request_of(line)
     }
 }
 
 /// Skips pairs of CR and LF.
 pub fn skip(text: &[u8]) -> &[u8]
-    ensures { result.now ≡ skip text.now }
+    ensures value { result.now ≡ skip text.now }
+    ensures end { IsEnd text.now result.now }
 {
     let mut rest = text;
     while let [b'\r', b'\n', more @ ..] = rest {

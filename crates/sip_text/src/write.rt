@@ -8,7 +8,8 @@ ghost use Rattle.sip_text.specs.Text.{Request, Response, header_text, pieces_tex
 ghost use Rattle.sip_text.specs.Seen.{view_start, views};
 
 use crate::growth::whole_or_nothing;
-use crate::parts::{Header, Start};
+use crate::header_lines::HeaderLines;
+use crate::parts::StartLine;
 use std::alloc::{AllocError, Allocator};
 
 fn append_each<B: Allocator>(out: &mut Vec<u8, B>, pieces: &[&[u8]]) -> Result<(), AllocError>
@@ -149,37 +150,34 @@ fn append_end<B: Allocator>(out: &mut Vec<u8, B>, body: &[u8]) -> Result<(), All
     append_pieces(out, &[b"\r\n", body])
 }
 
-fn append_start<A: Allocator, B: Allocator>(
-    out: &mut Vec<u8, B>,
-    start: &Start<A>,
-) -> Result<(), AllocError>
-    requires { is_start (view_start start.now) ≡ true }
+fn append_start<B: Allocator>(out: &mut Vec<u8, B>, start: StartLine<'_>) -> Result<(), AllocError>
+    requires { is_start (view_start start) ≡ true }
     ensures ok { OnOk result
-        (out.new.items ≡ out.old.items ++ ended (start_line (view_start start.now))) }
+        (out.new.items ≡ out.old.items ++ ended (start_line (view_start start.entry))) }
     ensures err { OnErr result (out.new.items ≡ out.old.items) }
     ensures full { OnErr result
-        (vec_capacity out.old < vec_len out.old + length (ended (start_line (view_start start.now)))) }
+        (vec_capacity out.old < vec_len out.old + length (ended (start_line (view_start start.entry)))) }
     ensures capacity { vec_capacity out.old ≤ vec_capacity out.new }
 {
     match start {
-        Start::Request { method, uri } => append_request_line(out, method, uri),
-        Start::Response { status, reason } => append_status_line(out, *status, reason),
+        StartLine::Request { method, uri } => append_request_line(out, method, uri),
+        StartLine::Response { status, reason } => append_status_line(out, status, reason),
     }
 }
 
-fn append_lines<A: Allocator, B: Allocator>(
+fn append_lines<B: Allocator>(
     out: &mut Vec<u8, B>,
-    headers: &[Header<A>],
+    headers: HeaderLines<'_>,
 ) -> Result<(), AllocError>
     ensures ok { OnOk result
-        (out.new.items ≡ out.old.items ++ flat_map header_text (views headers.now)) }
+        (out.new.items ≡ out.old.items ++ flat_map header_text (views headers.entry)) }
     ensures begins { take (vec_len out.old) out.new.items ≡ out.old.items }
     ensures full { OnErr result
-        (vec_capacity out.old < vec_len out.old + length (flat_map header_text (views headers.now))) }
+        (vec_capacity out.old < vec_len out.old + length (flat_map header_text (views headers.entry))) }
     ensures capacity { vec_capacity out.old ≤ vec_capacity out.new }
 {
     for header in headers {
-        append_header(out, header.name(), header.value())?;
+        append_header(out, header.name, header.value)?;
     }
     Ok(())
 }
@@ -189,17 +187,17 @@ fn append_lines<A: Allocator, B: Allocator>(
 /// # Errors
 ///
 /// Only where the growth of `out` is refused; `out` is then unchanged.
-fn append_headers<A: Allocator, B: Allocator>(
+fn append_headers<B: Allocator>(
     out: &mut Vec<u8, B>,
-    headers: &[Header<A>],
+    headers: HeaderLines<'_>,
 ) -> Result<(), AllocError>
     ensures ok { OnOk result
-        (out.new.items ≡ out.old.items ++ flat_map header_text (views headers.now)) }
+        (out.new.items ≡ out.old.items ++ flat_map header_text (views headers.entry)) }
     ensures err { OnErr result (out.new.items ≡ out.old.items) }
-    ensures room { vec_len out.old + length (flat_map header_text (views headers.now)) ≤ vec_capacity out.old
+    ensures room { vec_len out.old + length (flat_map header_text (views headers.entry)) ≤ vec_capacity out.old
         → IsOk result }
     ensures full { OnErr result
-        (vec_capacity out.old < vec_len out.old + length (flat_map header_text (views headers.now))) }
+        (vec_capacity out.old < vec_len out.old + length (flat_map header_text (views headers.entry))) }
     ensures capacity { vec_capacity out.old ≤ vec_capacity out.new }
 {
     out.reserve(headers_len(headers))?;
@@ -208,22 +206,22 @@ fn append_headers<A: Allocator, B: Allocator>(
     whole_or_nothing(out, before, done)
 }
 
-fn append_parts<A: Allocator, B: Allocator>(
+fn append_parts<B: Allocator>(
     out: &mut Vec<u8, B>,
-    start: &Start<A>,
-    headers: &[Header<A>],
+    start: StartLine<'_>,
+    headers: HeaderLines<'_>,
     body: &[u8],
 ) -> Result<(), AllocError>
-    requires { is_start (view_start start.now) ≡ true }
+    requires { is_start (view_start start) ≡ true }
     ensures ok { OnOk result
         (out.new.items
         ≡ out.old.items
-        ++ spelling (record { start = view_start start.now; headers = views headers.now; body = body.now })) }
+        ++ spelling (record { start = view_start start.entry; headers = views headers.entry; body = body.now })) }
     ensures begins { take (vec_len out.old) out.new.items ≡ out.old.items }
     ensures full { OnErr result
         (vec_capacity out.old
         < vec_len out.old
-        + length (spelling (record { start = view_start start.now; headers = views headers.now; body = body.now }))) }
+        + length (spelling (record { start = view_start start.entry; headers = views headers.entry; body = body.now }))) }
 {
     append_start(out, start)?;
     append_headers(out, headers)?;
@@ -231,22 +229,22 @@ fn append_parts<A: Allocator, B: Allocator>(
 }
 
 /// Appends a message of these parts, or nothing; `out` grows once at most.
-pub fn append_message<A: Allocator, B: Allocator>(
+pub fn append_message<B: Allocator>(
     out: &mut Vec<u8, B>,
-    start: &Start<A>,
-    headers: &[Header<A>],
+    start: StartLine<'_>,
+    headers: HeaderLines<'_>,
     body: &[u8],
 ) -> Result<(), AllocError>
-    requires { is_start (view_start start.now) ≡ true }
+    requires { is_start (view_start start) ≡ true }
     ensures ok { OnOk result
         (out.new.items
         ≡ out.old.items
-        ++ spelling (record { start = view_start start.now; headers = views headers.now; body = body.now })) }
+        ++ spelling (record { start = view_start start.entry; headers = views headers.entry; body = body.now })) }
     ensures err { OnErr result (out.new.items ≡ out.old.items) }
     ensures full { OnErr result
         (vec_capacity out.old
         < vec_len out.old
-        + length (spelling (record { start = view_start start.now; headers = views headers.now; body = body.now }))) }
+        + length (spelling (record { start = view_start start.entry; headers = views headers.entry; body = body.now }))) }
 {
     out.reserve(message_len(start, headers, body))?;
     let before = out.len();
@@ -276,29 +274,29 @@ fn header_len(name: &[u8], value: &[u8]) -> usize
 }
 
 /// How many bytes header lines are with their ends.
-fn headers_len<A: Allocator>(headers: &[Header<A>]) -> usize
-    ensures { result ≡ saturated (length (flat_map header_text (views headers.now))) }
+fn headers_len(headers: HeaderLines<'_>) -> usize
+    ensures { result ≡ saturated (length (flat_map header_text (views headers.entry))) }
 {
     let mut len = 0usize;
     for header in headers {
-        len = len.saturating_add(header_len(header.name(), header.value()));
+        len = len.saturating_add(header_len(header.name, header.value));
     }
     len
 }
 
-fn start_len<A: Allocator>(start: &Start<A>) -> usize
-    ensures { result ≡ saturated (length (ended (start_line (view_start start.now)))) }
+fn start_len(start: StartLine<'_>) -> usize
+    ensures { result ≡ saturated (length (ended (start_line (view_start start.entry)))) }
 {
     match start {
-        Start::Request { method, uri } => request_line_len(method, uri),
-        Start::Response { reason, .. } => status_line_len(reason),
+        StartLine::Request { method, uri } => request_line_len(method, uri),
+        StartLine::Response { reason, .. } => status_line_len(reason),
     }
 }
 
 /// How many bytes a message of these parts is.
-fn message_len<A: Allocator>(start: &Start<A>, headers: &[Header<A>], body: &[u8]) -> usize
+fn message_len(start: StartLine<'_>, headers: HeaderLines<'_>, body: &[u8]) -> usize
     ensures { result
-        ≡ saturated (length (spelling (record { start = view_start start.now; headers = views headers.now; body = body.now }))) }
+        ≡ saturated (length (spelling (record { start = view_start start.entry; headers = views headers.entry; body = body.now }))) }
 {
     start_len(start)
         .saturating_add(headers_len(headers))

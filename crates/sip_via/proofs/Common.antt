@@ -1,6 +1,6 @@
 -- The names that most proofs of this crate cite, passed on from one place. Declares nothing.
 pub use Rattle.std.proofs.Common.{Bool, Err, IfSome, List, None, Ok, Option, Result, Some, [], ap, append_assoc, arith, codes, cond, drop, eqb, false, get_or, inl, inr, is_none, length, ltb, map, nat_le, not, option_map, refl, reverse}
-pub use Rattle.std.proofs.Common.{slice_set, subst, suc, sym, take, true, zero, ℕ, ◌%◌, ◌&&◌, ◌*◌, ◌++◌, ◌+◌, ◌-◌, ◌/◌, ◌<◌, ◌^◌, ◌||◌, ◌∙◌, ◌∷◌, ◌≡◌, ◌≢◌, ◌≤◌, rules}
+pub use Rattle.std.proofs.Common.{slice_get, slice_set, subst, suc, sym, take, true, zero, ℕ, ◌%◌, ◌&&◌, ◌*◌, ◌++◌, ◌+◌, ◌-◌, ◌/◌, ◌<◌, ◌^◌, ◌||◌, ◌∙◌, ◌∷◌, ◌≡◌, ◌≢◌, ◌≤◌, rules}
 pub use Rattle.std.proofs.lemmas.Bool.{and_from, and_parts, cases_Bool, cond-false, cond-true, cond_both, eqb-true, false_from_ne_true, false≢true, leb-true, or_cases}
 pub use Rattle.std.proofs.lemmas.Fmt.{digits_decimal, length-decimal-le}
 pub use Rattle.std.proofs.lemmas.List.{append-nil, drop_all, drop_at, length-append, length-set, reverse-append, reverse-reverse, take-append-drop, take_all, take_at}
@@ -32,7 +32,8 @@ pub use Rattle.sip_text.proofs.laws.Good.{and_both, trim_trimmed}
 pub use Rattle.sip_text.specs.Message.{IsMessage, is_header, is_line, is_line_byte, is_trimmed, is_value}
 pub use Rattle.sip_text.specs.Name.{first_of, first_value, same_name}
 pub use Rattle.sip_text.specs.Reading.{begins_with_space}
-pub use Rattle.sip_text.specs.Seen.{view, views}
+pub use Rattle.sip_text.specs.Change.{valued_at, with_value_at}
+pub use Rattle.sip_text.specs.Seen.{view_line, views}
 pub use Rattle.sip_text.specs.Text.{HeaderText, MessageText}
 pub use Rattle.sip_uri.proofs.laws.Hosts.{other_than}
 pub use Rattle.sip_uri.specs.Host.{IsHost, IsPort, host_len, is_address_byte, is_host_byte}

@@ -7,6 +7,5 @@ pub mod KeyDigits
 pub mod FrontLaws
 pub mod TrimmedLen
 pub mod ViaReads
-pub mod Walks
 pub mod SentLaws
 pub mod OwnSent

@@ -1,7 +1,8 @@
 -- Header lines of which some are changed or left out (RFC 3261 section 7.3).
 use Rattle.std.specs.Prelude.{ℕ, ◌+◌, Bool, false, List, [], ◌∷◌, ◌++◌, Option, Some, None, if◌then◌else◌}
+pub use Rattle.sip_text.specs.Change.{with_headers}
 use Rattle.sip_text.specs.Name.{same_name}
-use Rattle.sip_text.specs.Text.{HeaderText, MessageText}
+use Rattle.sip_text.specs.Text.{HeaderText}
 
 abbrev pub line : List ℕ → List ℕ → HeaderText
 line name value = record { name = name; value = value }
@@ -20,10 +21,6 @@ replaced name value (h ∷ hs) = if same_name name h.name then line_if_any h.nam
 abbrev pub changed_first : Option (List ℕ) → List HeaderText → List HeaderText
 changed_first value [] = []
 changed_first value (h ∷ hs) = line_if_any h.name value ++ hs
-
--- a message with other header lines
-abbrev pub with_headers : MessageText → List HeaderText → MessageText
-with_headers m hs = record { start = m.start; headers = hs; body = m.body }
 
 -- the first line has that name
 abbrev pub begins_named : List ℕ → List HeaderText → Bool

@@ -1,4 +1,6 @@
 pub mod BranchParts
+pub mod CutLines
 pub mod Fronts
 pub mod SeenParts
 pub mod SentParts
+pub mod Short

@@ -7,29 +7,33 @@ ghost use Rattle.std.specs.Str.{bytes_eq};
 ghost use Rattle.sip_via.specs.Address.{address_text, dotted};
 ghost use Rattle.sip_via.specs.inner.Fronts.{behind_address, behind_marked, behind_number, is_end};
 
+use crate::growing::Growing;
 use itoa::Buffer;
-use sip_lex::append_decimal;
-use std::alloc::{AllocError, Allocator};
+use std::alloc::AllocError;
 
-/// Appends a number behind a dot.
-fn append_dotted<B: Allocator>(out: &mut Vec<u8, B>, n: u8) -> Result<(), AllocError>
-    ensures { OnOk result (out.new.items ≡ out.old.items ++ dotted n) }
+/// Adds a number in decimal.
+pub(crate) fn add_number<T: Growing>(out: &mut T, n: u16) -> Result<(), AllocError>
+    ensures { OnOk result (T.text out.new ≡ T.text out.old ++ decimal n) }
 {
-    out.push(b'.')?;
-    append_decimal(out, u64::from(n))
+    out.add(Buffer::new().format(n).as_bytes())
 }
 
-/// Appends an address as four decimal numbers with dots between them.
-pub(crate) fn append_address<B: Allocator>(
-    out: &mut Vec<u8, B>,
-    addr: [u8; 4],
-) -> Result<(), AllocError>
-    ensures { OnOk result (out.new.items ≡ out.old.items ++ address_text addr) }
+/// Adds a number behind a dot.
+fn add_dotted<T: Growing>(out: &mut T, n: u8) -> Result<(), AllocError>
+    ensures { OnOk result (T.text out.new ≡ T.text out.old ++ dotted n) }
 {
-    append_decimal(out, u64::from(addr[0]))?;
-    append_dotted(out, addr[1])?;
-    append_dotted(out, addr[2])?;
-    append_dotted(out, addr[3])
+    out.add(b".")?;
+    add_number(out, u16::from(n))
+}
+
+/// Adds an address as four decimal numbers with dots between them.
+pub(crate) fn add_address<T: Growing>(out: &mut T, addr: [u8; 4]) -> Result<(), AllocError>
+    ensures { OnOk result (T.text out.new ≡ T.text out.old ++ address_text addr) }
+{
+    add_number(out, u16::from(addr[0]))?;
+    add_dotted(out, addr[1])?;
+    add_dotted(out, addr[2])?;
+    add_dotted(out, addr[3])
 }
 
 /// What stands behind a number in decimal.

@@ -4,12 +4,11 @@ ghost use Rattle.std.specs.Prelude.{◌≡◌, ◌≤◌, length};
 ghost use Rattle.sip_text.specs.Seen.{views};
 ghost use Rattle.sip_via.specs.Edits.{begins_named, place_of};
 
-use sip_text::Header;
-use std::alloc::Allocator;
+use sip_text::HeaderLines;
 
 /// Whether the first of some header lines has that name, in any case and in long or compact form.
-pub fn begins_named<A: Allocator>(headers: &[Header<A>], name: &[u8]) -> bool
-    ensures { result ≡ begins_named name.now (views headers.now) }
+pub fn begins_named(headers: HeaderLines<'_>, name: &[u8]) -> bool
+    ensures { result ≡ begins_named name.now (views headers.entry) }
 {
     match headers.split_first() {
         None => false,
@@ -18,9 +17,9 @@ pub fn begins_named<A: Allocator>(headers: &[Header<A>], name: &[u8]) -> bool
 }
 
 /// The place of the first header line of that name, or how many there are.
-pub fn place_of<A: Allocator>(headers: &[Header<A>], name: &[u8]) -> usize
-    ensures value { result ≡ place_of name.now (views headers.now) }
-    ensures within { result ≤ length headers.now }
+pub fn place_of(headers: HeaderLines<'_>, name: &[u8]) -> usize
+    ensures value { result ≡ place_of name.now (views headers.entry) }
+    ensures within { result ≤ length (views headers.entry) }
 {
     for i in 0..headers.len() {
         let (_, rest) = headers.split_at(i);

@@ -4,7 +4,7 @@ ghost use Rattle.std.specs.Prelude.{◌≡◌, ◌++◌, ◌∷◌, [], IfOk, co
 ghost use Rattle.sip_text.specs.Message.{is_value};
 ghost use Rattle.sip_via.specs.OwnVia.{IsOwn, own_via, word_of};
 
-use crate::address::append_address;
+use crate::address::add_address;
 use crate::branch::{BranchName, write_branch};
 use crate::own::Own;
 use sip_lex::append_decimal;
@@ -43,7 +43,7 @@ pub fn own_via<A: Allocator>(
     is_own_address(own);
     let mut text = Vec::new(alloc);
     text.extend_from_slice(front_of(own.transport))?;
-    append_address(&mut text, own.addr)?;
+    add_address(&mut text, own.addr)?;
     text.push(b':')?;
     append_decimal(&mut text, u64::from(own.port))?;
     text.extend_from_slice(b";branch=")?;

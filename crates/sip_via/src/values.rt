@@ -17,12 +17,12 @@ pub(crate) const VIA: &[u8] = b"via";
 /// The Via values of a message, the nearest sender's first (RFC 3261 section 20.42): those that are left,
 /// each line's in order.
 #[derive(Drop)]
-pub struct ViaValues<'a, A: Allocator> {
+pub struct ViaValues<'a> {
     line: Option<&'a [u8]>,
-    lines: Values<'a, 'static, A>,
+    lines: Values<'a, 'static>,
 }
 
-impl<'a, A: Allocator> Model for ViaValues<'a, A> {
+impl<'a> Model for ViaValues<'a> {
     ghost use Rattle.std.specs.Prelude.{List, ℕ};
     ghost use Rattle.std.specs.Option.{option_copied};
     ghost use Rattle.sip_via.specs.SeenVia.{values_left};
@@ -41,10 +41,7 @@ fn cut_value(text: &[u8]) -> (&[u8], Option<&[u8]>)
 }
 
 /// The line that is begun, or else the next one.
-fn take_line<'a, A: Allocator>(
-    line: &mut Option<&'a [u8]>,
-    lines: &mut Values<'a, 'static, A>,
-) -> Option<&'a [u8]>
+fn take_line<'a>(line: &mut Option<&'a [u8]>, lines: &mut Values<'a, 'static>) -> Option<&'a [u8]>
     ensures some { IfSome result
         (λ text. values_left (option_copied line.old) lines.old ≡ values_in text.now ++ flat_map values_in lines.new) }
     ensures none { IfNone result (values_left (option_copied line.old) lines.old ≡ []) }
@@ -55,12 +52,12 @@ fn take_line<'a, A: Allocator>(
     }
 }
 
-impl<'a, A: Allocator> ViaValues<'a, A> {
+impl<'a> ViaValues<'a> {
     ghost use Rattle.std.specs.Prelude.{◌≡◌, [], ◌∷◌, IfSome, IfNone};
     ghost use Rattle.sip_via.specs.TopVia.{via_values};
 
     /// All Via values of a message.
-    pub fn of(message: &'a Message<A>) -> ViaValues<'a, A>
+    pub fn of<A: Allocator>(message: &'a Message<A>) -> ViaValues<'a>
         ensures { result ≡ via_values message.now }
     {
         ViaValues {

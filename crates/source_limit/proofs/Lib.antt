@@ -1,3 +1,4 @@
 pub mod laws
 mod Sweeping
 mod Rates
+mod Running

@@ -1,2 +1,3 @@
 pub mod Bucket
 pub mod Limits
+pub mod Runs

@@ -1,5 +1,5 @@
 //! The addresses that are kept, as a map under their numbers.
-ghost use Rattle.std.specs.Prelude.{◌≡◌, ◌≢◌, ◌+◌, ◌≤◌, ℕ, length, is_some, IfOk, OnErr, OnOk, if◌then◌else◌};
+ghost use Rattle.std.specs.Prelude.{◌≡◌, ◌≢◌, ◌+◌, ◌≤◌, ℕ, length, is_some, IfOk, Some, OnErr, OnOk, if◌then◌else◌};
 ghost use Rattle.std.specs.BTreeMap.{insert_entry};
 ghost use Rattle.std.specs.Ordering.{nat_cmp};
 ghost use Rattle.source_limit.specs.Limits.{bucket_of, charged, is_admitted, kept_at, most_addresses, spent_by, still_spent};
@@ -38,6 +38,7 @@ fn keep<A: Allocator + Clone>(
     bucket: Bucket,
 ) -> Result<(), AllocError>
     ensures ok { OnOk result (buckets.new.entries ≡ insert_entry nat_cmp buckets.old.entries address bucket) }
+    ensures own { OnOk result (kept_at buckets.new.entries address ≡ Some bucket) }
     ensures err { OnErr result (buckets.new.entries ≡ buckets.old.entries) }
     ensures more { length buckets.new.entries ≤ length buckets.old.entries + (if is_some (kept_at buckets.old.entries address) then 0 else 1) }
     ensures others { (other : ℕ) → other ≢ address → kept_at buckets.new.entries other ≡ kept_at buckets.old.entries other }

@@ -9,5 +9,5 @@ mod kept;
 mod law;
 mod limits;
 
-pub use law::no_address_exceeds_its_rate;
+pub use law::{no_address_exceeds_its_rate, no_run_exceeds_its_rate};
 pub use limits::SourceLimits;

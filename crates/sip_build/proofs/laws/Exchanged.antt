@@ -1,7 +1,6 @@
 -- Header lines with others in the place of all those of a name, and round one of another name.
 use Rattle.sip_build.proofs.Common.{◌≡◌, ℕ, suc, ◌+◌, ◌<◌, ◌≤◌, true, false, not, List, [], ◌∷◌, ◌++◌, length, take, drop, Option, refl, sym, ap, ◌∙◌, append_assoc, arith, inl, inr, codes, filter, cases_Bool, cond-true, cond-false, append-nil}
-use Rattle.sip_build.proofs.Common.{drop-map, same_name, view, views, HeaderText, line_if_any, place_of, replaced, exchanged, is_other, apart, common_steps}
-use Rattle.std.proofs.lemmas.List.{length-map, take-map}
+use Rattle.sip_build.proofs.Common.{same_name, HeaderText, line_if_any, place_of, replaced, exchanged, is_other, apart, common_steps}
 use Rattle.sip_text.specs.Name.{full_name}
 use Rattle.sip_via.proofs.laws.Places.{replaced-none, replaced-some}
 
@@ -16,7 +15,7 @@ split name lines (h ∷ hs) =
     let k : 1 + n ≡ suc n = omega arith in
     grind (arith, common_steps, cases_Bool (same_name name h.name), split name lines hs, cond-true, filter-named, cond-false)
 
-pub exchanged-split : (name : List ℕ) (lines : List HeaderText) (hs front back : List HeaderText) (n : ℕ) → n ≡ place_of name (views hs) → front ≡ take n hs → back ≡ drop n hs → views front ++ (lines ++ filter (is_other name) (views back)) ≡ exchanged name lines (views hs)
+pub exchanged-split : (name : List ℕ) (lines : List HeaderText) (hs front back : List HeaderText) (n : ℕ) → n ≡ place_of name hs → front ≡ take n hs → back ≡ drop n hs → front ++ (lines ++ filter (is_other name) back) ≡ exchanged name lines hs
 exchanged-split name lines hs front back n at f b = grind (arith, common_steps, split)
 
 -- ---- in two parts
@@ -88,33 +87,36 @@ via-is-no-contact = refl
 
 -- the lines in two parts, at the first of the other name
 pub record Parted (via : List ℕ) (hs before behind : List HeaderText) (n : ℕ) : Type 0 where
-  pub place : n ≡ place_of via (views hs)
+  pub place : n ≡ place_of via hs
   pub front : before ≡ take n hs
   pub back : behind ≡ drop n hs
 
-pub parted_at : (via : List ℕ) (hs before behind : List HeaderText) (n : ℕ) → n ≡ place_of via (views hs) → before ≡ take n hs → behind ≡ drop n hs → Parted via hs before behind n
+pub parted_at : (via : List ℕ) (hs before behind : List HeaderText) (n : ℕ) → n ≡ place_of via hs → before ≡ take n hs → behind ≡ drop n hs → Parted via hs before behind n
 parted_at via hs before behind n place front back = record { place = place; front = front; back = back }
 
-front-of : (via : List ℕ) (hs front back : List HeaderText) (n : ℕ) → Parted via hs front back n → views front ≡ take (place_of via (views hs)) (views hs)
-front-of via hs front back n p = ap (λ (xs : List HeaderText). views xs) (p.front ∙ ap (λ k. take k hs) p.place) ∙ sym (take-map view (place_of via (views hs)) hs)
+front-of : (via : List ℕ) (hs front back : List HeaderText) (n : ℕ) → Parted via hs front back n → front ≡ take (place_of via hs) hs
+front-of via hs front back n p = p.front ∙ ap (λ k. take k hs) p.place
 
-back-of : (via : List ℕ) (hs front back : List HeaderText) (n : ℕ) → Parted via hs front back n → drop (place_of via (views hs)) (views hs) ≡ views back
-back-of via hs front back n p = drop-map view (place_of via (views hs)) hs ∙ ap (λ (xs : List HeaderText). views xs) (sym (p.back ∙ ap (λ k. drop k hs) p.place))
+back-of : (via : List ℕ) (hs front back : List HeaderText) (n : ℕ) → Parted via hs front back n → drop (place_of via hs) hs ≡ back
+back-of via hs front back n p = sym (p.back ∙ ap (λ k. drop k hs) p.place)
 
-changed : (via : List ℕ) (o : Option (List ℕ)) (hs front after : List HeaderText) (top : HeaderText) (n : ℕ) → Parted via hs front (top ∷ after) n → views front ++ (line_if_any (view top).name o ++ views after) ≡ replaced via o (views hs)
-changed via o hs front after top n p = grind (arith, common_steps, replaced-some)
+changed : (via : List ℕ) (o : Option (List ℕ)) (hs front after : List HeaderText) (top : HeaderText) (n : ℕ) → Parted via hs front (top ∷ after) n → front ++ (line_if_any top.name o ++ after) ≡ replaced via o hs
+changed via o hs front after top n p =
+    ap (λ (xs : List HeaderText). xs ++ (line_if_any top.name o ++ after)) (front-of via hs front (top ∷ after) n p)
+    ∙ sym (replaced-some via o hs after top (back-of via hs front (top ∷ after) n p))
 
-other-named : (via name : List ℕ) (hs front after : List HeaderText) (top : HeaderText) (n : ℕ) → same_name via name ≡ false → Parted via hs front (top ∷ after) n → same_name name (view top).name ≡ false
-other-named via name hs front after top n differ p = apart via name (view top).name differ (place-named via (views hs) (views after) (view top) (back-of via hs front (top ∷ after) n p))
+other-named : (via name : List ℕ) (hs front after : List HeaderText) (top : HeaderText) (n : ℕ) → same_name via name ≡ false → Parted via hs front (top ∷ after) n → same_name name top.name ≡ false
+other-named via name hs front after top n differ p = apart via name top.name differ (place-named via hs after top (back-of via hs front (top ∷ after) n p))
 
-pub round-none : (via name : List ℕ) (o : Option (List ℕ)) (lines : List HeaderText) (hs front : List HeaderText) (n : ℕ) → Parted via hs front [] n → exchanged name lines (views front) ≡ exchanged name lines (replaced via o (views hs))
-round-none via name o lines hs front n p = grind (arith, common_steps, replaced-none)
+pub round-none : (via name : List ℕ) (o : Option (List ℕ)) (lines : List HeaderText) (hs front : List HeaderText) (n : ℕ) → Parted via hs front [] n → exchanged name lines front ≡ exchanged name lines (replaced via o hs)
+round-none via name o lines hs front n p =
+    ap (λ (xs : List HeaderText). exchanged name lines xs) (front-of via hs front [] n p ∙ sym (replaced-none via o hs (back-of via hs front [] n p)))
 
-pub round-sooner : (via name : List ℕ) (o : Option (List ℕ)) (lines : List HeaderText) (hs front after : List HeaderText) (top : HeaderText) (n : ℕ) → same_name via name ≡ false → Parted via hs front (top ∷ after) n → place_of name (views front) < length front → exchanged name lines (views front) ++ (line_if_any (view top).name o ++ filter (is_other name) (views after)) ≡ exchanged name lines (replaced via o (views hs))
-round-sooner via name o lines hs front after top n differ p lt = grind (arith, common_steps, length-map front view, other-named via name hs front after top n differ p, changed via o hs front after top n p, filter-round, exchanged-sooner)
+pub round-sooner : (via name : List ℕ) (o : Option (List ℕ)) (lines : List HeaderText) (hs front after : List HeaderText) (top : HeaderText) (n : ℕ) → same_name via name ≡ false → Parted via hs front (top ∷ after) n → place_of name front < length front → exchanged name lines front ++ (line_if_any top.name o ++ filter (is_other name) after) ≡ exchanged name lines (replaced via o hs)
+round-sooner via name o lines hs front after top n differ p lt = grind (arith, common_steps, other-named via name hs front after top n differ p, changed via o hs front after top n p, filter-round, exchanged-sooner)
 
-pub round-later : (via name : List ℕ) (o : Option (List ℕ)) (lines : List HeaderText) (hs front after : List HeaderText) (top : HeaderText) (n : ℕ) → same_name via name ≡ false → Parted via hs front (top ∷ after) n → length front ≤ place_of name (views front) → views front ++ (line_if_any (view top).name o ++ exchanged name lines (views after)) ≡ exchanged name lines (replaced via o (views hs))
-round-later via name o lines hs front after top n differ p le = grind (arith, common_steps, length-map front view, other-named via name hs front after top n differ p, changed via o hs front after top n p, exchanged-round, exchanged-later)
+pub round-later : (via name : List ℕ) (o : Option (List ℕ)) (lines : List HeaderText) (hs front after : List HeaderText) (top : HeaderText) (n : ℕ) → same_name via name ≡ false → Parted via hs front (top ∷ after) n → length front ≤ place_of name front → front ++ (line_if_any top.name o ++ exchanged name lines after) ≡ exchanged name lines (replaced via o hs)
+round-later via name o lines hs front after top n differ p le = grind (arith, common_steps, other-named via name hs front after top n differ p, changed via o hs front after top n p, exchanged-round, exchanged-later)
 
 -- ---- what was added in three steps
 

@@ -2,17 +2,16 @@
 use Rattle.std.specs.Prelude.{ℕ, ◌<◌, List, [], ◌∷◌, ◌++◌, map, codes, Option, Some, None, if◌then◌else◌}
 use Rattle.std.specs.List.{flat_map}
 use Rattle.sip_text.specs.Name.{same_name}
-use Rattle.sip_text.specs.Seen.{views}
+use Rattle.sip_text.specs.Seen.{view_lines, views}
 use Rattle.sip_text.specs.Text.{HeaderText, MessageText, StartText}
 use Rattle.sip_text.specs.Text as text
 use Rattle.sip_via.specs.Edits.{line}
 use Rattle.sip_build.specs.declared.runs.Pick.{Pick}
 use Rattle.sip_build.specs.declared.runs.Pick.TheVariants.{Named, Others, Renamed}
 use Rattle.sip_build.specs.declared.runs.HeaderRun.{HeaderRun}
-use Rattle.sip_build.specs.declared.runs.HeaderRun.TheVariants.{Kept, Picked, Line, Joined, Contacts, Challenges, Further, SeventyHops, NoBody, From, To, CallId}
+use Rattle.sip_build.specs.declared.runs.HeaderRun.TheVariants.{NoLine, Kept, Picked, Line, Joined, Contacts, Challenges, Further, SeventyHops, NoBody, From, To, CallId}
 use Rattle.sip_build.specs.declared.made_text.Front.{Front}
 use Rattle.sip_build.specs.declared.made_text.Front.TheVariants.{Request, Response}
-use Rattle.sip_build.specs.Further.{view_lines}
 use Rattle.sip_build.specs.SeenKept.{texts}
 use Rattle.sip_build.specs.inner.Texts.{lines_text}
 use Rattle.sip_lex.specs.Line.{ended}
@@ -24,16 +23,17 @@ picked_name (Named name) h = if same_name name.now h.name then Some h.name else 
 picked_name (Others name) h = if same_name name.now h.name then None else Some h.name
 picked_name (Renamed name other) h = if same_name name.now h.name then Some other.now else None
 
-abbrev pub under : HeaderText → Option (List ℕ) → List HeaderText
-under h None = []
-under h (Some name) = line name h.value ∷ []
+abbrev pub under : List ℕ → Option (List ℕ) → List HeaderText
+under value None = []
+under value (Some name) = line name value ∷ []
 
 abbrev pub picked : Pick → HeaderText → List HeaderText
-picked pick h = under h (picked_name pick h)
+picked pick h = under h.value (picked_name pick h)
 
 abbrev pub lines_of : {A : Type 0} → HeaderRun A → List HeaderText
-lines_of (Kept hs) = views hs.now
-lines_of (Picked hs pick) = flat_map (picked pick) (views hs.now)
+lines_of NoLine = []
+lines_of (Kept hs) = views hs
+lines_of (Picked hs pick) = flat_map (picked pick) (views hs)
 lines_of (Line name value) = line name.now value.now ∷ []
 lines_of (Joined name a b d) = line name.now (a.now ++ (b.now ++ d.now)) ∷ []
 lines_of (Contacts kept) = contact_lines (texts kept.now)

@@ -182,7 +182,3 @@ generated_good m status further is good none =
 pub no_length : values_of length_name [] ≡ []
 unfolding values_of
 no_length = refl
-
--- what is made of parts like these
-pub made_so : (m : MessageText) (start : StartText) (hs : List HeaderText) (body : List ℕ) → IsMessage m → start ≡ m.start → hs ≡ m.headers → body ≡ m.body → IsMessage (record { start = start; headers = hs; body = body })
-made_so m start hs body is s h b = grind arith

@@ -1,11 +1,10 @@
 -- What is read is such as may be written.
-use Rattle.sip_text.proofs.Common.{◌≡◌, ℕ, zero, suc, ◌+◌, ◌-◌, ◌≤◌, Bool, true, false, not, eqb, List, [], ◌∷◌, ◌++◌, length, take, drop, reverse, Option, Some, None, refl, sym, ap, subst, ◌∙◌, inl, inr, arith, ◌&&◌, list_all, flat_map, prefix_len}
-use Rattle.sip_text.proofs.Common.{suffix_len, AllByRecursion, and_parts, cases_Bool, cond_both, cond-true, cond-false, ne_eqb, false≢true, take-append-drop, list_all-append, is_space, is_token, trim, trim_end, trim_start, cut, is, behind, line_in}
+use Rattle.sip_text.proofs.Common.{◌≡◌, ℕ, suc, ◌+◌, ◌-◌, ◌≤◌, Bool, true, false, List, [], ◌∷◌, ◌++◌, length, take, drop, reverse, Option, Some, None, refl, sym, ap, subst, ◌∙◌, inl, inr, arith, ◌&&◌, list_all, flat_map, prefix_len}
+use Rattle.sip_text.proofs.Common.{suffix_len, AllByRecursion, and_parts, cases_Bool, cond_both, cond-true, cond-false, take-append-drop, list_all-append, is_space, trim, trim_start, cut, is, behind, line_in}
 use Rattle.sip_text.proofs.Common.{pieces, cut_joins, cut_lacks, is_header, is_line, is_line_byte, is_trimmed, Group, Headers, Lines, before_group, begins_with_space, closed, header_of, header_of_cut, joined, lines_from, part_text, tail_of_group}
 use Rattle.sip_text.proofs.Common.{tail_of_lines, with_header, with_line, HeaderText, common_steps, rules}
 use Rattle.std.proofs.Common.{length-drop}
 use Rattle.std.proofs.lemmas.List.{drop_at, length-reverse, reverse-append}
-use Rattle.std.proofs.lemmas.List.Sums.{suffix_len-le-length}
 use Rattle.sip_lex.specs.Cut.{Lacks}
 use Rattle.sip_lex.specs.Line.{line_of_cut}
 use Rattle.sip_lex.proofs.laws.Cuts.{Lacks-front}

@@ -4,7 +4,6 @@ use Rattle.std.proofs.Common.{codes}
 use Rattle.std.proofs.lemmas.Slice.Eq.{bytes_eq-Decides}
 use Rattle.std.specs.Prelude.{if◌then◌else◌}
 use Rattle.std.specs.Str.{bytes_eq}
-use Rattle.sip_text.specs.declared.method.Method.{Method}
 use Rattle.sip_text.specs.declared.method.Method.TheVariants.{Invite, Ack, Cancel, Options, Other}
 use Rattle.sip_text.specs.Method.{method_named}
 

@@ -10,7 +10,7 @@ use Rattle.fork_call.proofs.port.run_out.Goals as goal
 pub returns-in_err-pump-clause-cut : goal.returns-in_err-pump-clause-cut
 returns-in_err-pump-clause-cut g c =
     on_err c.from_residual.result _ (cut_before g.P.Port.sends g.P.Port.count c.args.now c.args.call.now c.args.port.now c.loop-i.call c.pump.new.self c.loop-i.port c.loop-i.i c.loop-i.sent c.loop-i.failed
-    c.loop-i.invariant.so_far (omega (arith, c.loop-i-test.true)) c.in_err-pump.ensures.err)
+    c.loop-i.invariant.so_far (omega (arith, c.loop-i-test.true)) c.in_err-pump.ensures.err c.in_err-pump.ensures.idle)
 
 pub returns-in_err-failed-in-Send-clause-cut : goal.returns-in_err-failed-in-Send-clause-cut
 returns-in_err-failed-in-Send-clause-cut g c =

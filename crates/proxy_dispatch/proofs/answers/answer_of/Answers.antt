@@ -1,5 +1,5 @@
 use Rattle.proxy_dispatch.proofs.Common.{◌∙◌, sym, IfOk-weaker}
-use Rattle.sip_build.specs.Further.{view_lines}
+use Rattle.sip_text.specs.Seen.{view_lines}
 use Rattle.sip_via.specs.Received.{marked}
 use Rattle.proxy_dispatch.proofs.Becoming.{unmarked_answer}
 use Rattle.proxy_dispatch.proofs.answers.answer_of.Goals as goal

@@ -1,4 +1,4 @@
-use Rattle.sip_build.proofs.Common.{◌∙◌, ◌++◌, List, ap, codes, views, HeaderText, texts, contact_lines}
+use Rattle.sip_build.proofs.Common.{◌∙◌, ◌++◌, List, ap, codes, HeaderText, texts, contact_lines, views}
 use Rattle.sip_build.proofs.laws.Exchanged.{exchanged-split}
 use Rattle.sip_build.proofs.HeaderRunTexts.{other-lines}
 use Rattle.sip_build.proofs.upward_text.exchanged_runs.Goals as goal
@@ -6,6 +6,6 @@ use Rattle.sip_build.proofs.upward_text.exchanged_runs.Goals as goal
 pub returns : goal.returns
 returns g c =
     let lines = contact_lines (texts c.args.kept.now) in
-    let back = views c.split_at.result.1.now in
-    ap (λ (xs : List HeaderText). views c.split_at.result.0.now ++ (lines ++ xs)) (other-lines (codes "contact") back)
-    ∙ exchanged-split (codes "contact") lines c.args.headers.now c.split_at.result.0.now c.split_at.result.1.now c.place_of.result c.place_of.ensures.value c.split_at.ensures.front c.split_at.ensures.back
+    let back = views c.split_at.result.1 in
+    ap (λ (xs : List HeaderText). (views c.split_at.result.0) ++ (lines ++ xs)) (other-lines (codes "contact") back)
+    ∙ exchanged-split (codes "contact") lines (views c.args.headers) (views c.split_at.result.0) (views c.split_at.result.1) c.place_of.result c.place_of.ensures.value c.split_at.ensures.front c.split_at.ensures.back

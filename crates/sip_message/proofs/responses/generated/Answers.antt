@@ -1,7 +1,18 @@
-use Rattle.sip_message.proofs.Common.{[], refl, view_start, views, generated_of}
-use Rattle.sip_message.proofs.laws.GeneratedGood.{generated_good, made_so, no_length}
+use Rattle.sip_message.proofs.Common.{[], refl, generated_of}
+use Rattle.sip_message.proofs.laws.GeneratedGood.{generated_good, no_length}
+use Rattle.sip_message.proofs.WrittenTexts.{is_written, spelled}
 use Rattle.sip_message.proofs.responses.generated.Goals as goal
 
-pub from_parts-requires : goal.from_parts-requires
-from_parts-requires g c =
-    made_so (generated_of c.args.message.now c.args.status []) (view_start c.in_ok-start.start) (views c.in_ok-headers.headers.items) c.new.result.items (generated_good c.args.message.now c.args.status [] c.is_message.ensures refl no_length) c.in_ok-start.ensures c.in_ok-headers.ensures c.new.ensures.items
+pub read_written-requires : goal.read_written-requires
+read_written-requires g c =
+    let m = generated_of c.args.message.now c.args.status [] in
+    let good = generated_good c.args.message.now c.args.status [] c.is_message.ensures refl no_length in
+    let text = spelled c.new-text.result.items c.write_generated.new.out.items c.deref.result.now m c.new-text.ensures.items c.in_ok-write_generated.ensures.ok c.deref.ensures.value in
+    is_written c.deref.result.now m good text
+
+pub returns-clause-ok : goal.returns-clause-ok
+returns-clause-ok g c =
+    let m = generated_of c.args.message.now c.args.status [] in
+    let good = generated_good c.args.message.now c.args.status [] c.is_message.ensures refl no_length in
+    let text = spelled c.new-text.result.items c.write_generated.new.out.items c.deref.result.now m c.new-text.ensures.items c.in_ok-write_generated.ensures.ok c.deref.ensures.value in
+    c.in_ok-read_written.ensures m good text

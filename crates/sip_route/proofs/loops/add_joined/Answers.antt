@@ -3,7 +3,7 @@ use Rattle.sip_route.proofs.Commas.{joined_commas}
 use Rattle.sip_route.proofs.loops.add_joined.Goals as goal
 
 pub returns : goal.returns
-returns g c = λ m held.
+returns c = λ m held.
     let first = c.in-Some.first.now in
     let more = c.next.new.self in
     subst (λ (t : List ℕ). Holds c.add_more.new.hasher t)

@@ -1,10 +1,25 @@
-use Rattle.sip_route.proofs.Common.{List, sym, subst, IsMessage, views, HeaderText, MessageText, with_headers}
-use Rattle.sip_text.specs.Seen.{view_start}
+use Rattle.sip_route.proofs.Common.{◌≡◌, ℕ, List, sym, subst, arith, IsMessage, views, HeaderText, MessageText, Own, stripped}
+use Rattle.sip_text.specs.Change.{with_part_at, without_line_at}
+use Rattle.sip_route.specs.declared.stripping.Left.TheVariants.{Nothing, Part}
+use Rattle.sip_route.specs.inner.Stripping.{Leaves}
 use Rattle.sip_route.proofs.laws.Stripped.{stripped-good}
 use Rattle.sip_route.proofs.stripping.strip.Goals as goal
 
-pub from_parts-requires : goal.from_parts-requires
-from_parts-requires g c =
-    let parts = c.into_parts-start.result in
-    let m : MessageText = record { start = view_start parts.0; headers = views parts.1.items; body = parts.2.items } in
-    subst (λ (hs : List HeaderText). IsMessage (with_headers m hs)) (sym c.strip_lines.ensures) (stripped-good m c.args.own c.into_parts-start.ensures.message)
+-- what is left is the message without the value
+gone : (m : MessageText) (own : Own) (hs : List HeaderText) (n : ℕ) → hs ≡ m.headers → Leaves own hs n Nothing → without_line_at n m ≡ stripped m own
+gone m own hs n is left = grind arith
+
+shorter : (m : MessageText) (own : Own) (hs : List HeaderText) (n start len : ℕ) → hs ≡ m.headers → Leaves own hs n (Part start len) → with_part_at n start len m ≡ stripped m own
+shorter m own hs n start len is left = grind arith
+
+pub remove_header-requires-clause-message : goal.remove_header-requires-clause-message
+remove_header-requires-clause-message g c =
+    let m = c.args.message in
+    let own = c.args.own in
+    subst IsMessage (sym (gone m own (views c.headers-2.result) c.place_of-place.result c.headers-2.ensures c.in-Nothing.ensures)) (stripped-good m own c.is_message.ensures)
+
+pub keep_value_part-requires-clause-message : goal.keep_value_part-requires-clause-message
+keep_value_part-requires-clause-message g c =
+    let m = c.args.message in
+    let own = c.args.own in
+    subst IsMessage (sym (shorter m own (views c.headers-2.result) c.place_of-place.result c.in-Part.start c.in-Part.len c.headers-2.ensures c.in-Part.ensures)) (stripped-good m own c.is_message.ensures)

@@ -3,4 +3,4 @@ use Rattle.sip_via.proofs.laws.Places.{place-later}
 use Rattle.sip_via.proofs.edits.place_of.Goals as goal
 
 pub loop-i-preserved : goal.loop-i-preserved
-loop-i-preserved g c = grind (arith, place-later)
+loop-i-preserved c = grind (arith, place-later)

@@ -1,8 +1,8 @@
 use Rattle.sip_via.proofs.Common.{arith}
 use Rattle.sip_via.proofs.lines.split_named.Goals as goal
 
-pub returns-then-begins_named-clause-found : goal.returns-then-begins_named-clause-found
-returns-then-begins_named-clause-found g c = grind arith
+pub returns-then-is_named-clause-found : goal.returns-then-is_named-clause-found
+returns-then-is_named-clause-found c = grind arith
 
 pub loop-header-preserved : goal.loop-header-preserved
-loop-header-preserved g c = grind arith
+loop-header-preserved c = grind arith

@@ -2,10 +2,10 @@ use Rattle.sip_via.proofs.Common.{◌≡◌, ◌≤◌, length, views, lines_amo
 use Rattle.sip_via.proofs.lines.split_named.Given as goal
 
 abbrev pub invariant-loop-header : goal.invariant-loop-header
-invariant-loop-header g l = record {
+invariant-loop-header l = record {
   same : lines_among l.name (views l.rest) ≡ lines_among l.name (views l.headers);
-  shorter : length l.rest ≤ length l.headers;
+  shorter : length (views l.rest) ≤ length (views l.headers);
 }
 
 abbrev pub decreases-loop-header : goal.decreases-loop-header
-decreases-loop-header g l = length l.rest
+decreases-loop-header l = length (views l.rest)

@@ -1,5 +1,5 @@
 use Rattle.call_branch.proofs.Common.{◌∙◌, ◌++◌, ap, List, ℕ, Own, Uri, spelling, BranchName, forwarded, over, OpenedRequest, branch_at}
-use Rattle.sip_build.specs.Further.{view_lines}
+use Rattle.sip_text.specs.Seen.{view_lines}
 use Rattle.sip_build.specs.Requests.{cancel_of}
 use Rattle.call_branch.proofs.opened.OpenedRequest.cancel_bytes.Goals as goal
 

@@ -1,5 +1,5 @@
 use Rattle.call_state.proofs.Common.{◌≡◌, take}
-use Rattle.sip_build.specs.Further.{view_lines}
+use Rattle.sip_text.specs.Seen.{view_lines}
 use Rattle.call_state.proofs.reasons.ReasonLines.further.Given as goal
 
 abbrev pub invariant-loop-line : goal.invariant-loop-line

@@ -1,8 +1,0 @@
-use Rattle.sip_text.proofs.Common.{◌≡◌, list_all, says}
-use Rattle.sip_text.proofs.fields.all_say.Given as goal
-
-abbrev pub invariant-loop-value : goal.invariant-loop-value
-invariant-loop-value g l =
-    (goal.iterator-loop-value g).can_next l.values ×
-    (goal.iterator-loop-value g).is_finite l.values ×
-    (list_all (says l.n) l.values ≡ list_all (says l.n) l.initial.values)

@@ -1,9 +1,0 @@
-use Rattle.sip_via.proofs.Common.{◌≡◌, ◌++◌, ◌||◌, flat_map, list_any, asks_port, marked_param}
-use Rattle.sip_via.proofs.received.append_params.Given as goal
-
-abbrev pub invariant-loop-param : goal.invariant-loop-param
-invariant-loop-param g l =
-    (goal.iterator-loop-param g).can_next l.params ×
-    (goal.iterator-loop-param g).is_finite l.params ×
-    (l.out.items ++ flat_map (marked_param l.port) l.params ≡ l.fn.out.items ++ flat_map (marked_param l.port) l.initial.params) ×
-    (l.asked || list_any asks_port l.params ≡ list_any asks_port l.initial.params)
