@@ -37,6 +37,16 @@ fn is_answer(cause: Cause) -> bool
     }
 }
 
+/// Notes a datagram with this cause that went out, if it is a CANCEL and that is noted.
+fn note_cancel(cancels: &mut Option<TargetSet>, cause: Cause) {
+    let Some(n) = cancelled_by(cause) else {
+        return;
+    };
+    if let Some(targets) = cancels {
+        targets.add(n);
+    }
+}
+
 impl<P: Port> Port for AnswerPort<'_, P> {
     ghost count = { λ answers. P.count answers.port.now };
 
@@ -45,10 +55,8 @@ impl<P: Port> Port for AnswerPort<'_, P> {
     fn send<A: Allocator>(&mut self, datagram: &Datagram<A>) -> bool {
         let went = self.port.send(datagram);
         self.has_answered = self.has_answered || (went && is_answer(datagram.cause));
-        if went
-            && let (Some(cancels), Some(n)) = (&mut self.cancels, cancelled_by(datagram.cause))
-        {
-            cancels.add(n);
+        if went {
+            note_cancel(&mut self.cancels, datagram.cause);
         }
         went
     }

@@ -100,17 +100,11 @@ impl CallNotes {
 /// The notes of some calls, by their numbers.
 type Table = BTreeMap<u64, CallNotes>;
 
-/// The notes of a call in a table, which are begun at this moment where there are none; None for want of memory.
-fn notes_in(
-    table: &mut Table,
-    alloc: Global,
-    number: u64,
-    now: u64,
-) -> Option<&mut CallNotes> {
-    if !table.contains_key(&number) && table.insert(number, CallNotes::new(alloc, now)).is_err() {
-        return None;
+/// Begins the notes of a call at this moment, where there are none, and there is memory for them.
+fn begin(table: &mut Table, alloc: Global, number: u64, now: u64) {
+    if !table.contains_key(&number) {
+        let _ = table.insert(number, CallNotes::new(alloc, now));
     }
-    table.get_mut(&number)
 }
 
 /// What is noted of all calls that are kept, for all threads. Whoever asks for more has the lock of the call in question.
@@ -144,7 +138,7 @@ impl NoteTables {
     /// Notes that a call was opened at this moment, in milliseconds.
     pub(crate) fn open<R: Wait>(&self, rt: &R, number: u64, now: u64) {
         if let Some(table) = self.table(number) {
-            let _ = notes_in(&mut table.lock(rt), self.alloc, number, now);
+            begin(&mut table.lock(rt), self.alloc, number, now);
         }
     }
 
@@ -159,8 +153,10 @@ impl NoteTables {
         let Some(table) = self.table(call.number()) else {
             return;
         };
+        let number = call.number();
         let mut table = table.lock(rt);
-        if let Some(notes) = notes_in(&mut table, self.alloc, call.number(), now) {
+        begin(&mut table, self.alloc, number, now);
+        if let Some(notes) = table.get_mut(&number) {
             notes.note_events(call.book().history(), now);
             notes.note_cancels(cancels, now);
         }
