@@ -1,7 +1,6 @@
-use Rattle.proxy_config.proofs.Common.{◌≡◌, ◌∙◌, Setup, is_whole, subst, sym, true}
-use Rattle.std.proofs.Common.{rules}
+use Rattle.proxy_config.proofs.Common.{◌≡◌, Setup, subst, sym}
 use Rattle.proxy_config.specs.Setup.{IsKept}
-use Rattle.proxy_config.proofs.draft.Draft.finished.Goals as goal
+use Rattle.proxy_config.proofs.parts.SetupParts.into_setup.Goals as goal
 
 kept_at : (s t : Setup) → s ≡ t → IsKept s.own s.domain s.locations → IsKept t.own t.domain t.locations
 kept_at s t same kept =
@@ -9,6 +8,4 @@ kept_at s t same kept =
     subst P same kept
 
 pub invariant_of-result : goal.invariant_of-result
-invariant_of-result g c =
-    let whole : is_whole c.args.self.phase ≡ true = search rules in
-    kept_at c.args.self.setup _ ((λ k. (sym c.self.view_is k).setup) ∙ (λ k. (sym c.self-inside.view_is k).parts)) (c.requires whole)
+invariant_of-result g c = kept_at c.args.self _ (λ k. (sym c.self.view_is k)) c.requires
