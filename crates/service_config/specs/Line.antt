@@ -1,5 +1,5 @@
 -- The lines of a service's configuration. Words are separated by one space, numbers are decimal without leading zeros.
-use Rattle.std.specs.Prelude.{◌≡◌, ◌≤◌, ℕ, ◌&&◌, ◌||◌, ◌==◌, not, nat_le, Bool, true, false, List, ◌∷◌, ◌++◌, length, Option, Some, None, codes}
+use Rattle.std.specs.Prelude.{◌≡◌, ◌≤◌, ℕ, ◌&&◌, ◌||◌, ◌==◌, not, nat_le, Bool, true, false, List, [], ◌∷◌, ◌++◌, length, Option, Some, None, codes}
 use Rattle.std.specs.Fmt.{decimal}
 use Rattle.std.specs.List.{list_all}
 use Rattle.std.specs.Option.{option_map}
@@ -7,8 +7,6 @@ use Rattle.sip_lex.specs.Cut.{Lacks, behind}
 use Rattle.fork_text.specs.Field.{is_visible, most_q, numbered_text}
 use Rattle.sip_digest.specs.declared.algorithm.Algorithms.{Algorithms}
 use Rattle.sip_digest.specs.declared.algorithm.Algorithms.TheVariants as algorithms
-use Rattle.user_list.specs.User.{begins_with_hash}
-use Rattle.user_list.specs.Users.{is_empty}
 use Rattle.proxy_config.specs.Line as setup
 use Rattle.service_config.specs.Net.{IsNet, net_text}
 use Rattle.service_config.specs.declared.expirations.Expirations.{Expirations}
@@ -87,7 +85,11 @@ is_location _ = false
 
 -- it is empty, or begins with `#`
 abbrev pub says_nothing : List ℕ → Bool
-says_nothing text = is_empty text || begins_with_hash text
+says_nothing [] = true
+says_nothing (b ∷ bs) = b == 35
+
+abbrev pub is_no_lf : ℕ → Bool
+is_no_lf b = not (b == 10)
 
 pub record IsLocationLine (user : List ℕ) (q : ℕ) (uri : List ℕ) (seconds : Option ℕ) : Type 0 where
   pub user_is : setup.is_user user ≡ true

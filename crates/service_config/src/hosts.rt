@@ -18,6 +18,15 @@ pub(crate) struct Hosts<A: Allocator> {
     numbers: BTreeSet<u64, A>,
 }
 
+impl<A: Allocator> Hosts<A> {
+    /// Whether the address with this number is among them.
+    pub(crate) fn has(&self, number: u64) -> bool
+        ensures { result ≡ is_among self.now number }
+    {
+        self.numbers.contains(&number)
+    }
+}
+
 impl<A: Allocator + Clone> Hosts<A> {
     fn new(alloc: A) -> Hosts<A>
         ensures { (number : ℕ) → is_among result number ≡ false }
@@ -25,13 +34,6 @@ impl<A: Allocator + Clone> Hosts<A> {
         Hosts {
             numbers: BTreeSet::new(alloc),
         }
-    }
-
-    /// Whether the address with this number is among them.
-    pub(crate) fn has(&self, number: u64) -> bool
-        ensures { result ≡ is_among self.now number }
-    {
-        self.numbers.contains(&number)
     }
 
     /// Adds the address with this number.

@@ -18,7 +18,6 @@ use fork_text::{read_number, read_number_before};
 use proxy_config::{Line as SetupLine, read_line as read_setup_line, read_octets};
 use sip_digest::Algorithms;
 use sip_lex::{cut_at, read_plain_number};
-use user_list::is_comment;
 
 /// A q is in thousandths, and at most one.
 const MOST_Q: u16 = 1000;
@@ -273,10 +272,17 @@ fn read_cut(text: &[u8]) -> Option<Line<'_>>
     }
 }
 
+/// Whether a line says nothing: it is empty, or begins with `#`.
+fn says_nothing(text: &[u8]) -> bool
+    ensures { result ≡ says_nothing text.now }
+{
+    matches!(text, [] | [b'#', ..])
+}
+
 fn read_plain(text: &[u8]) -> Option<Line<'_>>
     ensures { option_map line_of result ≡ read_plain text.now }
 {
-    if is_comment(text) {
+    if says_nothing(text) {
         return Some(Line::Comment(text));
     }
     if text == b"strangers".as_slice() {

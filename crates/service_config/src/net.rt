@@ -21,8 +21,10 @@ pub(crate) fn address_number(addr: [u8; 4]) -> u64
     ensures value { result ≡ address_number addr.entry }
     ensures within { result < 2 ^ 32 }
 {
-    let [a, b, c, d] = addr;
-    u64::from(a) * 16_777_216 + u64::from(b) * 65_536 + u64::from(c) * 256 + u64::from(d)
+    u64::from(addr[0]) * 16_777_216
+        + u64::from(addr[1]) * 65_536
+        + u64::from(addr[2]) * 256
+        + u64::from(addr[3])
 }
 
 /// How many addresses have the same first bits.

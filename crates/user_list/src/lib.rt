@@ -8,6 +8,6 @@ mod user_line;
 mod users;
 
 pub use fault::UserFault;
-pub use line::{is_comment, is_user_name};
+pub use line::is_user_name;
 pub use user_line::append_user;
 pub use users::UserList;

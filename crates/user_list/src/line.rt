@@ -138,7 +138,7 @@ fn read_user(algorithms: Algorithms, text: &[u8]) -> Option<NamedSecrets<'_>>
 }
 
 /// Whether a line says nothing: it is empty, or begins with `#`.
-pub fn is_comment(text: &[u8]) -> bool
+fn is_comment(text: &[u8]) -> bool
     ensures { result ≡ (is_empty text.now || begins_with_hash text.now) }
 {
     text.is_empty() || begins_with_hash(text)

@@ -6,10 +6,9 @@ use Rattle.sip_lex.specs.Cut.{cut, is}
 use Rattle.sip_lex.specs.Number.{plain_number_within}
 use Rattle.fork_text.specs.Field.{most_q, number_before, number_from}
 use Rattle.sip_digest.specs.Algorithm.{algorithms_named}
-use Rattle.user_list.specs.Users.{is_no_lf}
 use Rattle.proxy_config.specs.Line as setup
 use Rattle.proxy_config.specs.LineReading as setup_line
-use Rattle.service_config.specs.Line.{Line, SetupLine, RingLine, RealmLine, ExpiresLine, StrangersLine, TrustLine, GatewayLine, LocationLine, CommentLine, are_expirations, is_realm, most_expiration, most_ring, says_nothing}
+use Rattle.service_config.specs.Line.{Line, SetupLine, RingLine, RealmLine, ExpiresLine, StrangersLine, TrustLine, GatewayLine, LocationLine, CommentLine, are_expirations, is_no_lf, is_realm, most_expiration, most_ring, says_nothing}
 use Rattle.service_config.specs.Net.{address_number, block}
 use Rattle.service_config.specs.declared.expirations.Expirations.{Expirations}
 use Rattle.service_config.specs.declared.line.Word.{Word}
