@@ -4,4 +4,5 @@ pub mod LineLaws
 pub mod SpelledLines
 pub mod Sound
 pub mod Texts
-pub mod Hosts
+pub mod HostSets
+pub mod Steps

@@ -184,3 +184,7 @@ line_found text line e =
 -- what was read has the parts of a line
 pub read_has_parts : (text : List ℕ) (line : Line) → Some line ≡ read_line text → HasParts line
 read_has_parts text line e = (line_found text line (sym e)).1.parts
+
+-- what was cut has the parts of a line
+pub cut_has_parts : (user : List ℕ) (q : ℕ) (rest : List ℕ) (line : Line) → setup.is_user user ≡ true → q ≤ most_q → Some line ≡ location_cut user q (cut (is 32) rest) → HasParts line
+cut_has_parts user q rest line is within e = (setup_found _ (setup.LocationLine user q rest) line refl (is, within) (sym e)).1

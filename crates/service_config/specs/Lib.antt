@@ -6,5 +6,3 @@ pub mod Settings
 pub mod Configuration
 pub mod ReadView
 pub mod RealmView
-pub mod Users
-pub mod UserLine

@@ -15,13 +15,10 @@ mod net;
 mod parts;
 mod realm;
 mod settings;
-mod user_line;
-mod users;
 
 pub use expirations::Expirations;
 pub use gateway::Gateway;
+pub use line::is_realm;
 pub use net::Net;
 pub use realm::Realm;
 pub use settings::ServiceSettings;
-pub use user_line::{UserLineFault, user_line};
-pub use users::{UsersFault, needs_users};

@@ -1,5 +1,5 @@
 //! The lines of a service's configuration.
-ghost use Rattle.std.specs.Prelude.{◌≡◌, ◌≤◌};
+ghost use Rattle.std.specs.Prelude.{◌≡◌, ℕ, List, option_and_then};
 ghost use Rattle.std.specs.List.{list_all};
 ghost use Rattle.std.specs.Option.{option_map};
 ghost use Rattle.sip_lex.specs.Cut.{Lacks, cut, is};
@@ -8,14 +8,14 @@ ghost use Rattle.fork_text.specs.Field.{number_before, number_from, seen_before}
 ghost use Rattle.proxy_config.specs.LineView as setup_view;
 ghost use Rattle.service_config.specs.Kind.{kind_of, setup_kind};
 ghost use Rattle.service_config.specs.Line.{are_expirations, is_realm, is_realm_byte, most_expiration, most_ring, says_nothing};
-ghost use Rattle.service_config.specs.inner.LineReading.{location_cut, net_at, net_if, of_setup, read_cut, read_expirations, read_line, read_net, read_plain, read_worded, realm_cut, word_of};
-ghost use Rattle.service_config.specs.inner.LineView.{line_of};
+ghost use Rattle.service_config.specs.inner.LineReading.{location_cut, location_in, net_at, net_if, read_cut, read_expirations, read_line, read_net, read_own, read_plain, read_worded, realm_cut, word_of};
+ghost use Rattle.service_config.specs.inner.LineView.{line_of, reading_in, seen_location};
 
 use crate::expirations::Expirations;
 use crate::kind::Kind;
 use crate::net::{Net, address_number, block};
 use fork_text::{read_number, read_number_before};
-use proxy_config::{Line as SetupLine, read_line as read_setup_line, read_octets};
+use proxy_config::{Line as SetupLine, read_octets};
 use sip_digest::Algorithms;
 use sip_lex::{cut_at, read_plain_number};
 
@@ -42,11 +42,10 @@ pub(crate) enum Word {
     OfSetup,
 }
 
-/// What a line says; texts are lent by the configuration. A location has its user, its q, its URI and for how many seconds it
-/// rings; a gateway its q and its URI.
+/// What a line says that no text of a setup has so; texts are lent by the configuration. A location has its user, its q, its URI and
+/// for how many seconds it rings; a gateway its q and its URI.
 #[derive(Clone, Copy, Debug)]
 pub(crate) enum Line<'a> {
-    OfSetup(SetupLine<'a>),
     Ring(u16),
     Realm(&'a [u8], Option<Algorithms>),
     Expires(Expirations),
@@ -57,7 +56,17 @@ pub(crate) enum Line<'a> {
     Comment(&'a [u8]),
 }
 
-fn setup_kind(line: &SetupLine<'_>) -> Kind
+/// What was read of a line.
+#[derive(Clone, Copy, Debug)]
+pub(crate) enum Reading<'a> {
+    /// Such a line.
+    Own(Line<'a>),
+    /// It is read as a line of a setup.
+    OfSetup,
+}
+
+/// The kind of a line of a setup.
+pub(crate) fn setup_kind(line: &SetupLine<'_>) -> Kind
     ensures { result ≡ setup_kind (setup_view.line_of line.now) }
 {
     match line {
@@ -70,13 +79,22 @@ fn setup_kind(line: &SetupLine<'_>) -> Kind
     }
 }
 
+/// The user, the q and what stands behind them, where a line of a setup is that of a location.
+pub(crate) fn location_in<'a>(line: &SetupLine<'a>) -> Option<(&'a [u8], u16, &'a [u8])>
+    ensures { seen_location result ≡ location_in (setup_view.line_of line.now) }
+{
+    match line {
+        SetupLine::Location(user, q, rest) => Some((*user, *q, *rest)),
+        _ => None,
+    }
+}
+
 impl Line<'_> {
     /// The kind of a line; `None` where it says nothing.
     pub(crate) fn kind(&self) -> Option<Kind>
         ensures { result ≡ kind_of (line_of self.now) }
     {
         match self {
-            Line::OfSetup(line) => Some(setup_kind(line)),
             Line::Ring(_) => Some(Kind::Ring),
             Line::Realm(_, _) => Some(Kind::Realm),
             Line::Expires(_) => Some(Kind::Expires),
@@ -115,7 +133,7 @@ fn are_realm_bytes(bytes: &[u8]) -> bool
 }
 
 /// Whether a text may be a realm: 1 to 64 visible bytes without `"` and `\`.
-pub(crate) fn is_realm(text: &[u8]) -> bool
+pub fn is_realm(text: &[u8]) -> bool
     ensures { result ≡ is_realm text.now }
 {
     1 <= text.len() && text.len() <= 64 && are_realm_bytes(text)
@@ -176,7 +194,7 @@ fn read_expirations(text: &[u8]) -> Option<Expirations>
 
 /// The net of these first bits, where all bits behind them are 0.
 fn net_if(addr: [u8; 4], bits: u8) -> Option<Net>
-    ensures { result ≡ net_if addr.entry bits }
+    ensures { result ≡ net_if addr bits }
 {
     if address_number(addr) % block(bits) == 0 {
         Some(Net { addr, bits })
@@ -186,7 +204,7 @@ fn net_if(addr: [u8; 4], bits: u8) -> Option<Net>
 }
 
 fn net_at(addr: [u8; 4], digits: &[u8]) -> Option<Net>
-    ensures { result ≡ net_at digits.now addr.entry }
+    ensures { result ≡ net_at digits.now addr }
 {
     let bits = read_plain_number(digits, MOST_BITS)?;
     net_if(addr, bits as u8)
@@ -201,28 +219,15 @@ fn read_net(text: &[u8]) -> Option<Net>
     }
 }
 
-// ---- those of a setup
+// ---- location
 
 /// A location whose URI may have the seconds for which it rings behind it.
-fn cut_location<'a>(user: &'a [u8], q: u16, rest: &'a [u8]) -> Option<Line<'a>>
+pub(crate) fn cut_location<'a>(user: &'a [u8], q: u16, rest: &'a [u8]) -> Option<Line<'a>>
     ensures { option_map line_of result ≡ location_cut user.now q (cut (is 32) rest.now) }
 {
     match cut_at(rest, b' ') {
         (uri, None) => Some(Line::Location(user, q, uri, None)),
         (uri, Some(digits)) => Some(Line::Location(user, q, uri, Some(read_ring(digits)?))),
-    }
-}
-
-fn of_setup(line: SetupLine<'_>) -> Option<Line<'_>>
-    ensures { option_map line_of result ≡ of_setup (setup_view.line_of line.entry) }
-{
-    match line {
-        SetupLine::Location(user, q, rest) => cut_location(user, q, rest),
-        SetupLine::Own(_)
-        | SetupLine::Instance(_)
-        | SetupLine::Domain(_)
-        | SetupLine::Prefer(_)
-        | SetupLine::Depth(_) => Some(Line::OfSetup(line)),
     }
 }
 
@@ -246,9 +251,9 @@ fn word_of(text: &[u8]) -> Word
     }
 }
 
-/// What a line says by its word, the whole text and what stands behind the word and a space.
-fn read_worded<'a>(text: &'a [u8], rest: &'a [u8], word: Word) -> Option<Line<'a>>
-    ensures { option_map line_of result ≡ read_worded text.now rest.now word }
+/// What stands behind one of the words of a service and a space.
+fn read_own(rest: &[u8], word: Word) -> Option<Line<'_>>
+    ensures { option_map line_of result ≡ read_own rest.now word }
 {
     match word {
         Word::Ring => Some(Line::Ring(read_ring(rest)?)),
@@ -259,16 +264,26 @@ fn read_worded<'a>(text: &'a [u8], rest: &'a [u8], word: Word) -> Option<Line<'a
             let (q, uri) = read_number_before(rest, MOST_Q)?;
             Some(Line::Gateway(q, uri))
         }
-        Word::OfSetup => of_setup(read_setup_line(text)?),
+        Word::OfSetup => None,
     }
 }
 
-fn read_cut(text: &[u8]) -> Option<Line<'_>>
-    ensures { option_map line_of result ≡ read_cut text.now (cut (is 32) text.now) }
+/// What a line says by its word, and what stands behind the word and a space.
+fn read_worded(rest: &[u8], word: Word) -> Option<Reading<'_>>
+    ensures { (text : List ℕ) → option_and_then (reading_in text) result ≡ read_worded text rest.now word }
+{
+    match word {
+        Word::OfSetup => Some(Reading::OfSetup),
+        _ => Some(Reading::Own(read_own(rest, word)?)),
+    }
+}
+
+fn read_cut(text: &[u8]) -> Option<Reading<'_>>
+    ensures { option_and_then (reading_in text.now) result ≡ read_cut text.now (cut (is 32) text.now) }
 {
     match cut_at(text, b' ') {
         (_, None) => None,
-        (word, Some(rest)) => read_worded(text, rest, word_of(word)),
+        (word, Some(rest)) => read_worded(rest, word_of(word)),
     }
 }
 
@@ -279,22 +294,22 @@ fn says_nothing(text: &[u8]) -> bool
     matches!(text, [] | [b'#', ..])
 }
 
-fn read_plain(text: &[u8]) -> Option<Line<'_>>
-    ensures { option_map line_of result ≡ read_plain text.now }
+fn read_plain(text: &[u8]) -> Option<Reading<'_>>
+    ensures { option_and_then (reading_in text.now) result ≡ read_plain text.now }
 {
     if says_nothing(text) {
-        return Some(Line::Comment(text));
+        return Some(Reading::Own(Line::Comment(text)));
     }
     if text == b"strangers".as_slice() {
-        return Some(Line::Strangers);
+        return Some(Reading::Own(Line::Strangers));
     }
     read_cut(text)
 }
 
-/// The line that a text spells; `None` where it spells none.
-pub(crate) fn read_line(text: &[u8]) -> Option<Line<'_>>
+/// What a text is read as; `None` where it spells no line.
+pub(crate) fn read_line(text: &[u8]) -> Option<Reading<'_>>
     requires { Lacks 10 text.now }
-    ensures { option_map line_of result ≡ read_line text.now }
+    ensures { option_and_then (reading_in text.now) result ≡ read_line text.now }
 {
     read_plain(text)
 }

@@ -18,7 +18,7 @@ pub(crate) const LOOPBACK: Net = Net {
 
 /// The number that the four bytes of an address make.
 pub(crate) fn address_number(addr: [u8; 4]) -> u64
-    ensures value { result ≡ address_number addr.entry }
+    ensures value { result ≡ address_number addr }
     ensures within { result < 2 ^ 32 }
 {
     u64::from(addr[0]) * 16_777_216
@@ -38,7 +38,7 @@ pub(crate) fn block(bits: u8) -> u64
 impl Net {
     /// Whether an address has the first bits of the net.
     pub fn has(self, addr: [u8; 4]) -> bool
-        ensures { result ≡ has self addr.entry }
+        ensures { result ≡ has self addr }
     {
         let block = block(self.bits);
         address_number(addr) / block == address_number(self.addr) / block
@@ -47,7 +47,7 @@ impl Net {
 
 /// Whether an address is in one of these nets.
 pub(crate) fn any_has(nets: &[Net], addr: [u8; 4]) -> bool
-    ensures { result ≡ list_any (λ net. has net addr.entry) nets.now }
+    ensures { result ≡ list_any (λ net. has net addr) nets.now }
 {
     nets.iter().any(|net| net.has(addr))
 }

@@ -2,11 +2,8 @@
 ghost use Rattle.std.specs.Prelude.{◌≡◌, ◌≤◌, ◌++◌, ◌∷◌, [], IfOk, Some, None, if◌then◌else◌};
 ghost use Rattle.std.specs.Option.{option_map};
 ghost use Rattle.fork_text.specs.Field.{most_q};
-ghost use Rattle.proxy_config.specs.Line as setup_line;
-ghost use Rattle.proxy_config.specs.LineView as setup_view;
-ghost use Rattle.proxy_config.specs.Parts as setup_parts;
 ghost use Rattle.service_config.specs.Line.{HasParts};
-ghost use Rattle.service_config.specs.Settings.{algorithms_or_md5, gateway_added, in_settings, longest_of, no_settings, with_gateway, with_line, with_location};
+ghost use Rattle.service_config.specs.Settings.{algorithms_or_md5, gateway_added, longest_of, no_settings, with_gateway, with_line, with_location};
 ghost use Rattle.service_config.specs.inner.LineView.{line_of};
 
 use crate::expirations::Expirations;
@@ -14,7 +11,7 @@ use crate::gateway::{Gateway, any_has_hop};
 use crate::line::Line;
 use crate::net::Net;
 use crate::realm::OwnRealm;
-use proxy_config::{Line as SetupLine, SetupParts, uri_if};
+use proxy_config::{SetupParts, uri_if};
 use sip_digest::Algorithms;
 use std::alloc::{AllocError, Allocator};
 use std::marker::Model;
@@ -131,14 +128,6 @@ impl<A: Allocator + Clone> SettingsParts<A> {
         Ok(())
     }
 
-    /// Adds a line that a setup has, too.
-    fn add_setup_line(&mut self, alloc: &A, line: SetupLine<'_>) -> Result<bool, AllocError>
-        requires { setup_line.IsLine (setup_view.line_of line) }
-        ensures { IfOk result (λ done. (if done then Some self.new else None) ≡ in_settings self.old (setup_parts.with_line self.old.setup (setup_view.line_of line.entry))) }
-    {
-        self.setup.add(alloc, line)
-    }
-
     /// Adds the location that a line says, and answers whether it may stand here.
     fn add_location(
         &mut self,
@@ -177,7 +166,6 @@ impl<A: Allocator + Clone> SettingsParts<A> {
         ensures { IfOk result (λ done. (if done then Some self.new else None) ≡ with_line self.old (line_of line.entry)) }
     {
         match line {
-            Line::OfSetup(line) => return self.add_setup_line(alloc, line),
             Line::Ring(seconds) => self.set_ring(u64::from(seconds) * 1_000),
             Line::Realm(realm, algorithms) => {
                 let text = realm.to_vec(alloc.clone()?)?;

@@ -102,7 +102,7 @@ impl<A: Allocator> ServiceSettings<A> {
     }
 
     fn is_in_nets(&self, addr: [u8; 4]) -> bool
-        ensures { result ≡ is_in_nets self.now.nets addr.entry }
+        ensures { result ≡ is_in_nets self.now.nets addr }
     {
         if self.nets.is_empty() {
             LOOPBACK.has(addr)
@@ -113,14 +113,14 @@ impl<A: Allocator> ServiceSettings<A> {
 
     /// Whether an address is in a net whose senders are trusted, or is the own one.
     pub fn is_inside(&self, addr: [u8; 4]) -> bool
-        ensures { result ≡ is_inside self.now addr.entry }
+        ensures { result ≡ is_inside self.now addr }
     {
         self.is_in_nets(addr) || address_number(addr) == address_number(self.setup.own().addr)
     }
 
     /// Whether an address is that of a gateway's hop.
     pub fn is_of_gateway(&self, addr: [u8; 4]) -> bool
-        ensures { result ≡ is_of_gateway self.now addr.entry }
+        ensures { result ≡ is_of_gateway self.now addr }
     {
         any_is_at(&self.gateways, address_number(addr))
     }
@@ -128,7 +128,7 @@ impl<A: Allocator> ServiceSettings<A> {
     /// Whether the senders at an address are trusted: it is inside, or that of the hop of a location or a gateway. These are looked
     /// up in an index, so that many locations cost nothing.
     pub fn is_trusted(&self, addr: [u8; 4]) -> bool
-        ensures { result ≡ is_trusted self.now addr.entry }
+        ensures { result ≡ is_trusted self.now addr }
     {
         self.is_inside(addr) || self.hosts.has(address_number(addr))
     }

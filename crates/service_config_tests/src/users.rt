@@ -1,6 +1,6 @@
 //! The list of users that goes with a realm, and the line of a user.
 use crate::holds::{holds, holds_of};
-use service_config::{UserLineFault, UsersFault, needs_users, user_line};
+use realm_users::{UserLineFault, UsersFault, needs_users, user_line};
 use std::alloc::{AllocError, Global};
 use user_list::UserFault;
 

@@ -69,6 +69,11 @@ of_setup (setup.PreferLine statuses) = Some (SetupLine (setup.PreferLine statuse
 of_setup (setup.DepthLine depth) = Some (SetupLine (setup.DepthLine depth))
 of_setup (setup.LocationLine user q rest) = location_cut user q (cut (is 32) rest)
 
+-- the user, the q and what stands behind them
+abbrev pub location_in : setup.Line → Option (List ℕ × ℕ × List ℕ)
+location_in (setup.LocationLine user q rest) = Some (user, q, rest)
+location_in _ = None
+
 -- ---- a line
 
 abbrev pub word_of : List ℕ → Word
@@ -80,14 +85,23 @@ word_of text =
     else (if bytes_eq text (codes "gateway") then word.Gateway
     else word.OfSetup))))
 
+-- what stands behind one of the words of a service and a space
+abbrev pub read_own : List ℕ → Word → Option Line
+read_own rest word.Ring = option_map RingLine (number_from 1 most_ring rest)
+read_own rest word.Realm = realm_cut (cut (is 32) rest)
+read_own rest word.Expires = option_map ExpiresLine (read_expirations rest)
+read_own rest word.Trust = option_map TrustLine (read_net rest)
+read_own rest word.Gateway = option_map gateway_of (number_before most_q rest)
+read_own rest word.OfSetup = None
+
 -- the whole text, and what stands behind its word and a space
 abbrev pub read_worded : List ℕ → List ℕ → Word → Option Line
-read_worded text rest word.Ring = option_map RingLine (number_from 1 most_ring rest)
-read_worded text rest word.Realm = realm_cut (cut (is 32) rest)
-read_worded text rest word.Expires = option_map ExpiresLine (read_expirations rest)
-read_worded text rest word.Trust = option_map TrustLine (read_net rest)
-read_worded text rest word.Gateway = option_map gateway_of (number_before most_q rest)
 read_worded text rest word.OfSetup = option_and_then of_setup (setup_line.read_line text)
+read_worded text rest word.Ring = read_own rest word.Ring
+read_worded text rest word.Realm = read_own rest word.Realm
+read_worded text rest word.Expires = read_own rest word.Expires
+read_worded text rest word.Trust = read_own rest word.Trust
+read_worded text rest word.Gateway = read_own rest word.Gateway
 
 abbrev pub read_cut : List ℕ → List ℕ × Option (List ℕ) → Option Line
 read_cut text (word, None) = None

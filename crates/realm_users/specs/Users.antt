@@ -2,8 +2,8 @@
 use Rattle.std.specs.Prelude.{Bool, true, false, Result, Ok, Err}
 use Rattle.user_list.specs.declared.fault.UserFault.{UserFault}
 use Rattle.user_list.specs.declared.fault.UserFault.TheVariants as listed
-use Rattle.service_config.specs.declared.users.UsersFault.{UsersFault}
-use Rattle.service_config.specs.declared.users.UsersFault.TheVariants as fault
+use Rattle.realm_users.specs.declared.fault.UsersFault.{UsersFault}
+use Rattle.realm_users.specs.declared.fault.UsersFault.TheVariants as fault
 
 abbrev pub fault_of : UserFault → UsersFault
 fault_of (listed.Line number) = fault.Line number

@@ -1,9 +1,9 @@
 //! The line of a user, made of a password that was typed.
 ghost use Rattle.std.specs.Prelude.{◌≡◌};
 ghost use Rattle.sip_lex.specs.Cut.{cut, is};
-ghost use Rattle.service_config.specs.UserLine.{GivesLine, checked, line_of_user, of_line, password_in, without_cr};
+ghost use Rattle.realm_users.specs.UserLine.{GivesLine, checked, line_of_user, of_line, password_in, without_cr};
 
-use crate::line::is_realm;
+use service_config::is_realm;
 use sip_lex::cut_at;
 use std::alloc::{AllocError, Allocator};
 use thiserror::Error;
@@ -27,7 +27,7 @@ pub enum UserLineFault {
 }
 
 impl From<AllocError> for UserLineFault {
-    ghost use Rattle.service_config.specs.declared.user_line.UserLineFault.TheVariants as fault;
+    ghost use Rattle.realm_users.specs.declared.line.UserLineFault.TheVariants as fault;
 
     ghost from_gives = { λ _ given. given ≡ fault.NoMemory };
 

@@ -7,8 +7,8 @@ use Rattle.sip_lex.specs.Cut.{cut, is}
 use Rattle.user_list.specs.User.{is_name, user_of, user_text}
 use Rattle.user_list.specs.Users.{is_empty}
 use Rattle.service_config.specs.Line.{is_realm}
-use Rattle.service_config.specs.declared.user_line.UserLineFault.{UserLineFault}
-use Rattle.service_config.specs.declared.user_line.UserLineFault.TheVariants as fault
+use Rattle.realm_users.specs.declared.line.UserLineFault.{UserLineFault}
+use Rattle.realm_users.specs.declared.line.UserLineFault.TheVariants as fault
 
 -- without the CR at its end, if there is one
 abbrev pub without_cr : List ℕ → List ℕ

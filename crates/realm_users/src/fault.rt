@@ -1,6 +1,6 @@
 //! The list of users that goes with a realm.
 ghost use Rattle.std.specs.Prelude.{◌≡◌};
-ghost use Rattle.service_config.specs.Users.{users_needed};
+ghost use Rattle.realm_users.specs.Users.{users_needed};
 
 use std::alloc::AllocError;
 use thiserror::Error;
@@ -27,7 +27,7 @@ pub enum UsersFault {
 }
 
 impl From<UserFault> for UsersFault {
-    ghost use Rattle.service_config.specs.Users.{fault_of};
+    ghost use Rattle.realm_users.specs.Users.{fault_of};
 
     ghost from_gives = { λ fault given. given ≡ fault_of fault };
 
@@ -40,7 +40,7 @@ impl From<UserFault> for UsersFault {
 }
 
 impl From<AllocError> for UsersFault {
-    ghost use Rattle.service_config.specs.declared.users.UsersFault.TheVariants as fault;
+    ghost use Rattle.realm_users.specs.declared.fault.UsersFault.TheVariants as fault;
 
     ghost from_gives = { λ _ given. given ≡ fault.NoMemory };
 
