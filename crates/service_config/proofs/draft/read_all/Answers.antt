@@ -1,8 +1,9 @@
-use Rattle.service_config.proofs.Common.{◌≡◌, ◌<◌, ℕ, Result, length, subst, arith}
+use Rattle.service_config.proofs.Common.{◌≡◌, ◌<◌, ℕ, Result, ap, length, slice_split, is, subst, sym, arith}
+use Rattle.service_config.specs.Configuration.{Draft, no_draft}
 use Rattle.fork_text.proofs.laws.Lines.{at_last_line, at_wrong_line, behind_line, if_added, if_not_added}
 use Rattle.service_config.specs.ReadView.{GivesSettings}
 use Rattle.service_config.specs.Settings.{Settings}
-use Rattle.service_config.specs.inner.Reading.{finished, read_settings, with_text}
+use Rattle.service_config.specs.inner.Reading.{IsSound, finished, read_from, read_settings, with_text}
 use Rattle.service_config.proofs.Sound.{none_sound, text_sound}
 use Rattle.service_config.proofs.draft.read_all.Goals as goal
 
@@ -22,7 +23,12 @@ returns-then-not-branch g c =
     at_wrong_line with_text finished c.loop-after.number c.loop-after.draft c.loop-after.rest.now c.cut_at.result.0.now c.cut_at.result.1 c.in-Some.after _ c.in-Some.is c.cut_at.ensures.value none c.loop-after.invariant.0
 
 pub loop-after-init : goal.loop-after-init
-loop-after-init g c = ?
+loop-after-init g c =
+    let same : c.in_ok-draft.draft ≡ no_draft c.args.instance = c.in_ok-draft.ensures in (
+      ap (λ (d : Draft). read_from 1 d (slice_split (is 10) c.args.text.now)) same,
+      subst IsSound (sym same) (none_sound c.args.instance),
+      omega arith,
+    )
 
 pub loop-after-preserved : goal.loop-after-preserved
 loop-after-preserved g c =
