@@ -10,7 +10,7 @@ use Rattle.proxy_config.specs.Setup.{Setup}
 use Rattle.call_routing.specs.Opening.{Opens}
 use Rattle.fork_call.specs.Answered.{EachDatagramIsRight, EachSuccessGoesUp, OneFinalAnswerGoesUp, OpenedCallsPayInOrder}
 use Rattle.fork_call.specs.Runs.{CallsHaveStages}
-use Rattle.law_tests.specs.Played.{EndsRight, HasEnded, IsPlayed, PlayedCallsEndRight}
+use Rattle.law_tests.specs.Played.{HasEnded, PlayedCallsEndRight}
 
 -- one final answer went up, where the stages end so
 once_at_end : OneFinalAnswerGoesUp → (setup : Setup) (number : ℕ) (m : MessageText) (source : Hop) (call new : Call) (stages : List Stage) → Opens setup number m source call

@@ -1,6 +1,6 @@
 -- A call that a test plays by calls alone goes on by them.
-use Rattle.std.proofs.Common.{◌≡◌, ◌⊎◌, inl, inr, ℕ, Bool, true, false, List, [], ◌∷◌, ◌++◌, Option, Some, None, Result, Ok, Err, refl, ap, sym, subst, ◌∙◌}
-use Rattle.std.specs.Prelude.{IfOk, OnErr, OnOk, not}
+use Rattle.std.proofs.Common.{◌≡◌, inl, inr, ℕ, Bool, true, false, List, [], ◌∷◌, ◌++◌, Some, None, Result, Ok, Err, refl, ap, sym, subst, ◌∙◌}
+use Rattle.std.specs.Prelude.{IfOk, OnErr, OnOk}
 use Rattle.fork_model.specs.Core.{Core}
 use Rattle.fork_model.specs.Log.{Log, core_of}
 use Rattle.fork_model.specs.Table.{is_finished, is_succeeded}
@@ -16,7 +16,7 @@ use Rattle.call_model.specs.Pump.{Pumped, Pumps}
 use Rattle.call_model.specs.SeenTaken.{seen_taken}
 use Rattle.call_model.specs.Server.{Owed}
 use Rattle.fork_call.specs.Carry.{IsCarriedOut, IsCutOff, Sends}
-use Rattle.fork_call.specs.Runs.{Answer, AnswerAt, Answers, AnswersAll, AreSaid, Carried, CutOff, Gave, IsSaid, Refused, Told, Took}
+use Rattle.fork_call.specs.Runs.{Answer, AnswerAt, Answers, AnswersAll, AreSaid, Carried, CutOff, Gave, IsSaid, Told, Took}
 use Rattle.fork_call.specs.Takes.{Takes}
 use Rattle.fork_call.specs.declared.fault.TakeFault.{TakeFault}
 use Rattle.law_tests.specs.Played.{HasEnded, IsPlayed}
