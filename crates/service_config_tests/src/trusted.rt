@@ -1,5 +1,5 @@
 //! Whom a service trusts.
-use crate::holds::{holds, holds_of, settings_of};
+use crate::holds::{holds, settings_of};
 use service_config::{Net, ServiceSettings};
 use std::process::Abort;
 
@@ -11,38 +11,43 @@ location bob 1000 sip:bob@203.0.113.5:5080\n";
 /// One without a line of trust.
 const LEAST: &[u8] = b"own 192.0.2.9 5060\ndomain example.com\n";
 
-/// Addresses, and whether they are inside, trusted, and of a gateway.
-const ADDRESSES: [([u8; 4], bool, bool, bool); 14] = [
-    ([192, 0, 2, 128], true, true, false),
-    ([192, 0, 2, 255], true, true, false),
-    ([192, 0, 2, 127], false, false, false),
-    ([192, 0, 3, 128], false, false, false),
-    ([193, 0, 2, 128], false, false, false),
-    ([10, 1, 0, 0], true, true, false),
-    ([10, 1, 255, 255], true, true, false),
-    ([10, 0, 255, 255], false, false, false),
-    ([10, 2, 0, 0], false, false, false),
-    ([192, 0, 2, 9], true, true, false),
-    ([127, 0, 0, 1], false, false, false),
-    ([198, 51, 100, 1], false, true, true),
-    ([203, 0, 113, 5], false, true, false),
-    ([203, 0, 113, 6], false, false, false),
+/// Addresses, each with what it is, and whether it is inside, trusted, and of a gateway.
+const ADDRESSES: [(&str, [u8; 4], bool, bool, bool); 14] = [
+    ("the first of a net", [192, 0, 2, 128], true, true, false),
+    ("the last of it", [192, 0, 2, 255], true, true, false),
+    ("one before it", [192, 0, 2, 127], false, false, false),
+    ("another third byte", [192, 0, 3, 128], false, false, false),
+    ("another first byte", [193, 0, 2, 128], false, false, false),
+    ("the first of a wider net", [10, 1, 0, 0], true, true, false),
+    ("the last of it", [10, 1, 255, 255], true, true, false),
+    ("one before it", [10, 0, 255, 255], false, false, false),
+    ("one behind it", [10, 2, 0, 0], false, false, false),
+    ("the own address", [192, 0, 2, 9], true, true, false),
+    ("this machine", [127, 0, 0, 1], false, false, false),
+    ("a gateway", [198, 51, 100, 1], false, true, true),
+    ("a location", [203, 0, 113, 5], false, true, false),
+    ("one behind it", [203, 0, 113, 6], false, false, false),
 ];
 
+/// Whether an address is inside, trusted, and of a gateway, as it is to be.
+fn is_known(
+    settings: &ServiceSettings,
+    addr: [u8; 4],
+    inside: bool,
+    trusted: bool,
+    of_gateway: bool,
+) -> bool {
+    settings.is_inside(addr) == inside
+        && settings.is_trusted(addr) == trusted
+        && settings.is_of_gateway(addr) == of_gateway
+}
+
 fn check(rt: &impl Abort, settings: &ServiceSettings) {
-    for (addr, is_inside, is_trusted, is_of_gateway) in ADDRESSES {
-        holds_of(rt, settings.is_inside(addr) == is_inside, "inside", &addr);
-        holds_of(
+    for (what, addr, inside, trusted, of_gateway) in ADDRESSES {
+        holds(
             rt,
-            settings.is_trusted(addr) == is_trusted,
-            "trusted",
-            &addr,
-        );
-        holds_of(
-            rt,
-            settings.is_of_gateway(addr) == is_of_gateway,
-            "of a gateway",
-            &addr,
+            is_known(settings, addr, inside, trusted, of_gateway),
+            what,
         );
     }
 }
