@@ -349,9 +349,9 @@ static void tell(double start)
     qsort(spans, spent, sizeof *spans, by_size);
     struct timespec own;
     clock_gettime(CLOCK_PROCESS_CPUTIME_ID, &own);
-    printf("begun=%d ended=%d answered=%d busy=%d refused=%d seconds=%.3f median=%.0f p99=%.0f again=%d both=%d ringing=%d sent=%ld came=%ld own=%.3f\n",
+    printf("begun=%d ended=%d answered=%d busy=%d refused=%d seconds=%.3f median=%.0f p99=%.0f worst=%.0f again=%d both=%d ringing=%d sent=%ld came=%ld own=%.3f\n",
         begun, ended, ok, busy, refused, (last - start) / 1e6, spent ? spans[spent / 2] : 0, spent ? spans[(long)spent * 99 / 100] : 0,
-        again, both, left_ringing(), sent, came, own.tv_sec + own.tv_nsec / 1e9);
+        spent ? spans[spent - 1] : 0, again, both, left_ringing(), sent, came, own.tv_sec + own.tv_nsec / 1e9);
 }
 
 static int read_word(const char *word)
