@@ -1,0 +1,4 @@
+pub mod laws
+pub mod Values
+pub mod Verdicts
+mod Fronts
