@@ -110,6 +110,8 @@ enum Turn {
     HasPosted(usize),
     /// It is not over.
     GoesOn,
+    /// A branch is waited for until that moment.
+    WaitsFor(u16, Option<u64>),
 }
 
 /// A moment in milliseconds, what happens then, and what that shows.
@@ -144,6 +146,7 @@ fn goes(alloc: Global, call: &mut Call, now: u64, turn: Turn) -> bool {
         Turn::Fails(cause) => call.failed(cause, now).is_ok(),
         Turn::HasPosted(count) => call.book().history().len() == count,
         Turn::GoesOn => !call.over(),
+        Turn::WaitsFor(n, until) => call.waits_until(n) == until,
     }
 }
 
@@ -168,6 +171,11 @@ const SENDING: &[Moment] = &[
     (0, Turn::Sends(FIRST_SENT), "the 100 and the requests"),
     (0, Turn::Rests, "nothing more"),
     (0, Turn::IsDue(500), "timer A is next"),
+    (
+        0,
+        Turn::WaitsFor(0, Some(181_000)),
+        "timer C runs since the request was sent",
+    ),
     (
         500,
         Turn::Sends(&[Cause::Request(0), Cause::Request(1)]),
@@ -205,6 +213,12 @@ const TAKING: &[Moment] = &[
         "the 200 comes again",
     ),
     (20, Turn::HasPosted(3), "three events"),
+    (
+        20,
+        Turn::WaitsFor(0, Some(32_020)),
+        "the first, which was cancelled, is given up then",
+    ),
+    (20, Turn::WaitsFor(1, None), "the second has ended"),
 ];
 
 #[test]
@@ -296,4 +310,17 @@ fn a_prepared_call_is_the_one_that_opens(rt: HostRuntime) {
         }
         None => holds(&rt, false, "both open"),
     }
+}
+
+/// Whether what the INVITE opens gives that back where it is not kept.
+fn is_given_back(alloc: Global) -> bool {
+    match prepared(alloc) {
+        Some(prepared) => prepared.into_request().is_invite(),
+        None => false,
+    }
+}
+
+#[test]
+fn a_call_that_is_not_kept_gives_its_request_back(rt: HostRuntime) {
+    holds(&rt, is_given_back(rt.alloc()), "its INVITE");
 }
