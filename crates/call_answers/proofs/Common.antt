@@ -15,10 +15,8 @@ pub use Rattle.fork_model.specs.Table.{Ended, Idle, Offer, Row, Rung, State, Tab
 pub use Rattle.call_model.specs.OpenedRequest.{OpenedRequest, Destination}
 pub use Rattle.call_model.specs.Branch.{Branch}
 pub use Rattle.call_model.specs.Posting.{no_branch, destination_of_contact, destinations_of}
-pub use Rattle.call_answers.specs.Queue.{HaveMessages, queue_of}
 pub use Rattle.call_model.specs.Response.{challenge_in, challenges_by, contact_for, contacts_at, contacts_by, contacts_for, contacts_in, contacts_or, event_by, is_redirection, offer_of}
 pub use Rattle.call_model.specs.Server.{Owed}
-pub use Rattle.call_answers.specs.declared.queue.Entry.{Entry}
 pub use Rattle.call_answers.specs.NewDestinations.{HaveDestinations, IsNone, count_in, place_of, destination_for, without}
 pub use Rattle.sip_lex.specs.Sheltered.{is_closed}
 pub use Rattle.sip_lex.specs.declared.sheltered.Shelter.TheVariants.{QuotesAndAngles}

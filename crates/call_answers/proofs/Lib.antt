@@ -1,5 +1,4 @@
 pub mod Common
-pub mod Queues
 pub mod NewPlaces
 pub mod NewDestinations
 pub mod Weights

@@ -10,7 +10,7 @@ mod queue;
 mod response_event;
 mod rows;
 
-pub use owed::{again_if, count_of, first_owed, owed_by};
-pub use queue::{NewAnswer, PendingResponse, PendingResponses, Queue};
+pub use owed::{again_if, first_owed, owed_by};
+pub use queue::{OwedAnswer, PendingResponse, PendingResponses, Queue};
 pub use response_event::ResponseEvent;
 pub use rows::{add_rows, place_of};

@@ -1,52 +1,31 @@
 //! The answers that are owed to a caller, in the order in which they came to be owed.
-ghost use Rattle.std.specs.Prelude.{◌≡◌, ◌==◌, ◌<◌, ◌≤◌, ◌+◌, ◌++◌, ◌∷◌, [], drop, length, slice_get, vec_capacity, vec_len, OnOk, Some};
-ghost use Rattle.std.specs.Option.{option_map, option_to_list};
-ghost use Rattle.call_answers.specs.Queue.{HasRoomFor, HaveMessages, messages_in, messages_of, new_of, news_of, queue_of, read_of, takes_message};
+ghost use Rattle.std.specs.Prelude.{◌≡◌, ◌==◌, ◌<◌, ◌≤◌, ◌+◌, ◌++◌, ◌∷◌, [], drop, length, slice_get, IfOk, OnOk};
+ghost use Rattle.std.specs.Option.{option_map};
+ghost use Rattle.call_answers.specs.Queue.{HasRoomFor, owed_in, owed_of, read_of};
 
 use fork_context::Choice;
 use sip_text::Message;
 use sip_uri::Hop;
-use smallvec::SmallVec;
 use std::alloc::{AllocError, Allocator, Global};
 use std::marker::Model;
 
-/// How many answers are owed at once with no allocation for their entries.
-const USUAL: usize = 4;
-
-/// An answer that is owed, without the message that it is made of.
-#[derive(Clone, Copy, Default)]
-enum Entry {
-    Trying,
-    Passed,
-    Final(Choice),
-    #[default]
-    Again,
-    CancelOk(Hop),
-}
-
-impl Entry {
-    /// Whether a message belongs to the entry.
-    fn takes_message(&self) -> bool
-        ensures { result ≡ takes_message self.now }
-    {
-        match self {
-            Entry::Passed | Entry::CancelOk(_) => true,
-            Entry::Trying | Entry::Final(_) | Entry::Again => false,
-        }
-    }
-}
-
-/// An answer that comes to be owed.
+/// An answer that is owed to the caller, with the message that it is made of, if it is made of one (RFC 3261 sections 9.2,
+/// 16.7 and 17.2).
 #[derive(Drop)]
-pub enum NewAnswer<A: Allocator> {
+pub enum OwedAnswer<A: Allocator> {
+    /// The 100 to an INVITE.
     Trying,
+    /// A provisional response or a 2xx of a branch, as it came.
     Passed(Message<A>),
+    /// The final answer.
     Final(Choice),
+    /// The answer that was sent last, again.
     Again,
+    /// The 200 to this CANCEL, as it was marked with its source, and where it goes.
     CancelOk(Message<A>, Hop),
 }
 
-/// What an answer is made of that is owed to the caller (RFC 3261 sections 9.2, 16.7 and 17.2).
+/// An answer that is owed to the caller, as it is read.
 #[derive(Drop)]
 pub enum PendingResponse<'a, A: Allocator = Global> {
     /// The 100 to an INVITE.
@@ -64,28 +43,17 @@ pub enum PendingResponse<'a, A: Allocator = Global> {
 /// The answers that are owed to the caller, in the order in which they came to be owed.
 #[derive(Drop)]
 pub struct PendingResponses<'a, A: Allocator = Global> {
-    entries: &'a [Entry],
-    messages: &'a [Message<A>],
+    answers: &'a [OwedAnswer<A>],
 }
 
 impl<'a, A: Allocator> Model for PendingResponses<'a, A> {
-    ghost use Rattle.std.specs.Prelude.{List};
-    ghost use Rattle.call_answers.specs.Queue.{HaveMessages, queue_of};
+    ghost use Rattle.std.specs.Prelude.{List, map};
+    ghost use Rattle.call_answers.specs.Queue.{owed_of};
     ghost use Rattle.call_model.specs.Server as server;
 
     ghost Value = { List server.Owed };
 
-    ghost view = { λ o. queue_of o.entries.now o.messages.now };
-
-    ghost invariant = { λ o. HaveMessages o.entries.now o.messages.now };
-}
-
-/// The first message, of which there is one.
-fn first_of<A: Allocator>(messages: &[Message<A>]) -> &Message<A>
-    requires there { 0 < length messages.now }
-    ensures { slice_get messages.now 0 ≡ Some result.now }
-{
-    &messages[0]
+    ghost view = { λ o. map owed_of o.answers.now };
 }
 
 impl<'a, A: Allocator> PendingResponses<'a, A> {
@@ -93,26 +61,26 @@ impl<'a, A: Allocator> PendingResponses<'a, A> {
     pub fn len(&self) -> usize
         ensures { result ≡ length self.now }
     {
-        self.entries.len()
+        self.answers.len()
     }
 
     /// Whether no answer is owed.
     pub fn is_empty(&self) -> bool
         ensures { result ≡ (length self.now == 0) }
     {
-        self.entries.is_empty()
+        self.answers.is_empty()
     }
 
     /// The first answer that is owed, if there is one.
     pub fn first(&self) -> Option<PendingResponse<'a, A>>
         ensures { option_map read_of result ≡ slice_get self.now 0 }
     {
-        Some(match self.entries.first()? {
-            Entry::Trying => PendingResponse::Trying,
-            Entry::Passed => PendingResponse::Passed(first_of(self.messages)),
-            Entry::Final(choice) => PendingResponse::Final(*choice),
-            Entry::Again => PendingResponse::Again,
-            Entry::CancelOk(to) => PendingResponse::CancelOk(first_of(self.messages), *to),
+        Some(match self.answers.first()? {
+            OwedAnswer::Trying => PendingResponse::Trying,
+            OwedAnswer::Passed(response) => PendingResponse::Passed(response),
+            OwedAnswer::Final(choice) => PendingResponse::Final(*choice),
+            OwedAnswer::Again => PendingResponse::Again,
+            OwedAnswer::CancelOk(cancel, to) => PendingResponse::CancelOk(cancel, *to),
         })
     }
 
@@ -121,113 +89,83 @@ impl<'a, A: Allocator> PendingResponses<'a, A> {
         requires { 0 < length self.now }
         ensures { result ≡ drop 1 self.now }
     {
-        let from = usize::from(self.entries[0].takes_message());
         PendingResponses {
-            entries: &self.entries[1..],
-            messages: &self.messages[from..],
+            answers: &self.answers[1..],
         }
     }
 }
 
-/// Puts the message behind the others, if there is one.
-fn push_if<A: Allocator>(messages: &mut Vec<Message<A>, A>, message: Option<Message<A>>)
-    requires room { vec_len messages.old + length (option_to_list message) ≤ vec_capacity messages.old }
-    ensures items { messages.new.items ≡ messages.old.items ++ option_to_list message }
-    ensures len { vec_len messages.new ≡ vec_len messages.old + length (option_to_list message) }
-    ensures capacity { vec_capacity messages.new ≡ vec_capacity messages.old }
-{
-    if let Some(message) = message {
-        messages.push_reserved(message);
-    }
-}
-
-/// The answers that are owed, the messages of some apart from their entries.
+/// The answers that are owed, with the room for those that come.
 #[derive(Drop)]
 pub struct Queue<A: Allocator> {
-    entries: SmallVec<Entry, USUAL>,
-    messages: Vec<Message<A>, A>,
+    answers: Vec<OwedAnswer<A>, A>,
 }
 
 impl<A: Allocator> Model for Queue<A> {
-    ghost use Rattle.std.specs.Prelude.{◌-◌, length, vec_capacity, vec_len};
+    ghost use Rattle.std.specs.Prelude.{◌-◌, map, vec_capacity, vec_len};
     ghost use Rattle.call_answers.specs.Queue as spec;
-    ghost use Rattle.call_answers.specs.Queue.{HaveMessages, queue_of};
+    ghost use Rattle.call_answers.specs.Queue.{owed_of};
 
     ghost Value = { spec.Queue };
 
-    ghost view = { λ q. record { items = queue_of q.entries.items q.messages.items; entries_left = q.entries.capacity - length q.entries.items; messages_left = vec_capacity q.messages - vec_len q.messages } };
-
-    ghost invariant = { λ q. HaveMessages q.entries.items q.messages.items };
+    ghost view = { λ q. record { items = map owed_of q.answers.items; left = vec_capacity q.answers - vec_len q.answers } };
 }
 
 impl<A: Allocator> Queue<A> {
-    /// A queue of which nothing is owed yet; `heap` is for the entries, `alloc` for the messages.
-    pub(crate) fn new(alloc: A, heap: Global) -> Self
-        ensures items { result.items ≡ [] }
-        ensures room { HasRoomFor result 1 0 }
+    /// A queue of which nothing is owed yet, with room for this many answers.
+    ///
+    /// # Errors
+    ///
+    /// Only where the allocator refuses.
+    pub(crate) fn with_room(alloc: A, answers: usize) -> Result<Self, AllocError>
+        ensures items { IfOk result (λ queue. queue.items ≡ []) }
+        ensures room { IfOk result (λ queue. HasRoomFor queue answers) }
     {
-        Queue {
-            entries: SmallVec::new(heap),
-            messages: Vec::new(alloc),
-        }
+        Ok(Queue {
+            answers: Vec::with_capacity(alloc, answers)?,
+        })
     }
 
-    /// Makes room for `more` further answers, and for `messages` further messages.
-    pub fn reserve(&mut self, more: usize, messages: usize) -> Result<(), AllocError>
+    /// Makes room for `more` further answers.
+    ///
+    /// # Errors
+    ///
+    /// Only where the allocator refuses.
+    pub fn reserve(&mut self, more: usize) -> Result<(), AllocError>
         ensures items { self.new.items ≡ self.old.items }
-        ensures ok { OnOk result (HasRoomFor self.new more messages) }
+        ensures ok { OnOk result (HasRoomFor self.new more) }
     {
-        self.entries.reserve(more)?;
-        self.messages.reserve(messages)
-    }
-
-    /// Puts an entry behind the others, with the message that it takes, if it takes one.
-    fn add(&mut self, entry: Entry, message: Option<Message<A>>)
-        requires room { HasRoomFor self.old 1 (length (option_to_list message)) }
-        requires taken { HaveMessages (entry ∷ []) (option_to_list message) }
-        ensures items { self.new.items ≡ self.old.items ++ queue_of (entry ∷ []) (option_to_list message) }
-        ensures entries { self.new.entries_left + 1 ≡ self.old.entries_left }
-        ensures messages { self.new.messages_left + length (option_to_list message) ≡ self.old.messages_left }
-    {
-        self.entries.push_reserved(entry);
-        push_if(&mut self.messages, message);
+        self.answers.reserve(more)
     }
 
     /// Puts an answer behind the others that are owed.
-    pub fn owe(&mut self, answer: NewAnswer<A>)
-        requires room { HasRoomFor self.old 1 (messages_of answer) }
-        ensures items { self.new.items ≡ self.old.items ++ new_of answer ∷ [] }
-        ensures entries { self.new.entries_left + 1 ≡ self.old.entries_left }
-        ensures messages { self.new.messages_left + messages_of answer ≡ self.old.messages_left }
+    pub fn owe(&mut self, answer: OwedAnswer<A>)
+        requires room { HasRoomFor self.old 1 }
+        ensures items { self.new.items ≡ self.old.items ++ owed_of answer ∷ [] }
+        ensures left { self.new.left + 1 ≡ self.old.left }
     {
-        match answer {
-            NewAnswer::Trying => self.add(Entry::Trying, None),
-            NewAnswer::Passed(response) => self.add(Entry::Passed, Some(response)),
-            NewAnswer::Final(choice) => self.add(Entry::Final(choice), None),
-            NewAnswer::Again => self.add(Entry::Again, None),
-            NewAnswer::CancelOk(cancel, to) => self.add(Entry::CancelOk(to), Some(cancel)),
-        }
+        self.answers.push_reserved(answer);
     }
 
     /// Puts the answer, if there is one, behind the others that are owed.
-    pub fn owe_if(&mut self, answer: Option<NewAnswer<A>>)
-        requires room { HasRoomFor self.old 1 (messages_in answer) }
-        ensures items { self.new.items ≡ self.old.items ++ news_of answer }
+    pub fn owe_if(&mut self, answer: Option<OwedAnswer<A>>)
+        requires room { HasRoomFor self.old 1 }
+        ensures items { self.new.items ≡ self.old.items ++ owed_in answer }
     {
         if let Some(answer) = answer {
             self.owe(answer);
         }
     }
 
-    /// Takes the first answer off, which is owed no more.
+    /// Takes the first answer off, which is owed no more. Where nothing is left owed, the memory for more than one answer is
+    /// given back, since a call may ring for long.
     pub fn pay_first(&mut self)
         requires some { 0 < length self.old.items }
         ensures { self.new.items ≡ drop 1 self.old.items }
     {
-        let entry = self.entries.remove(0);
-        if entry.takes_message() {
-            let _message = self.messages.remove(0);
-            self.messages.shrink_to_fit();
+        let _paid = self.answers.remove(0);
+        if self.answers.is_empty() && self.answers.capacity() > 1 {
+            self.answers.shrink_to_fit();
         }
     }
 
@@ -236,8 +174,7 @@ impl<A: Allocator> Queue<A> {
         ensures { result ≡ self.now.items }
     {
         PendingResponses {
-            entries: self.entries.as_slice(),
-            messages: &self.messages,
+            answers: &self.answers,
         }
     }
 }

@@ -10,5 +10,5 @@ mod transaction;
 
 pub use matching::{match_response, match_transaction};
 pub use opening::{admitted_target, is_openable, open, read_target};
-pub use opening_request::{Memory, OpeningRequest};
+pub use opening_request::OpeningRequest;
 pub use transaction::MatchedTransaction;

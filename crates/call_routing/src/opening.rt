@@ -19,7 +19,7 @@ ghost use Rattle.call_routing.specs.inner.Distinct.{AreDistinct};
 ghost use Rattle.sip_uri.specs.Fault.{Gives, refusal};
 ghost use Rattle.proxy_routing.specs.Targets.{has_hop, targets_of};
 
-use crate::opening_request::{Memory, OpeningRequest};
+use crate::opening_request::OpeningRequest;
 use call_answers::place_of;
 use call_branch::{Destination, OpenedRequest, Opening};
 use call_model::TriedContacts;
@@ -37,7 +37,7 @@ use sip_route::{first_route, request_uri};
 use sip_text::Message;
 use sip_uri::{Hop, SipUri, UriFault};
 use sip_via::reply_hop_of;
-use std::alloc::{AllocError, Allocator, Global};
+use std::alloc::{AllocError, Allocator};
 
 /// Where the request to a target that has a hop goes, and how long its branch may take.
 fn destination_to<A: Allocator + Clone>(
@@ -159,7 +159,6 @@ fn rows_have_places<A: Allocator + Clone>(
 /// The state of a call that begins to these targets, each of which has a hop.
 fn begin<A: Allocator + Clone>(
     alloc: A,
-    heap: Global,
     rules: Rules,
     opened: OpenedRequest<A>,
     candidates: &[CandidateTarget<'_, A>],
@@ -174,7 +173,7 @@ fn begin<A: Allocator + Clone>(
     let book = book_of(alloc.clone()?, kind, rules, candidates)?;
     rows_have_places(&book, candidates, kind, rules);
     let destinations = destinations_of(&alloc, candidates, &book)?;
-    CallState::begin(alloc, heap, opened, book, destinations, now)
+    CallState::begin(alloc, opened, book, destinations, now)
 }
 
 /// Which contacts of a 3xx a call tries, by whether the proxy is responsible for the Request-URI of its request, and whether it
@@ -229,7 +228,7 @@ fn open_to<A: Allocator + Clone>(
     ensures refused { IfErr result (IfRejected (IsUnreachableAs setup.now opening.request uri.now)) }
 {
     let OpeningRequest {
-        memory: Memory { alloc, heap },
+        alloc,
         request,
         source,
         now,
@@ -261,7 +260,7 @@ fn open_to<A: Allocator + Clone>(
     });
     locations_are_targets();
     let _locations = setup.locations();
-    match begin(alloc, heap, setup.rules(), opened, &candidates, now) {
+    match begin(alloc, setup.rules(), opened, &candidates, now) {
         Ok(state) => Ok(state),
         Err(AllocError) => Err(Unrouted::NoMemory),
     }
@@ -281,7 +280,7 @@ fn open_prepared<A: Allocator + Clone>(
     if asks_extension(&opening.request) {
         return Err(Unrouted::Rejected(RequestRejection::Extension, opening.request));
     }
-    let uri = admitted_target(opening.memory.alloc.clone()?, &opening.request)?;
+    let uri = admitted_target(opening.alloc.clone()?, &opening.request)?;
     open_to(setup, opening, &uri)
 }
 
@@ -311,16 +310,16 @@ pub fn open<A: Allocator + Clone>(
     ensures refused { IfErr result (IfRejected (IsRefusedFor setup.now opening.request opening.source)) }
 {
     let OpeningRequest {
-        memory,
+        alloc,
         request,
         source,
         now,
     } = opening;
-    match validate_request(memory.alloc.clone()?, setup, request, source) {
+    match validate_request(alloc.clone()?, setup, request, source) {
         Ok(request) => open_prepared(
             setup,
             OpeningRequest {
-                memory,
+                alloc,
                 request,
                 source,
                 now,

@@ -1,21 +1,13 @@
 //! Requests that are to open calls, as they were received.
 use sip_text::Message;
 use sip_uri::Hop;
-use std::alloc::{Allocator, Global};
+use std::alloc::Allocator;
 
-/// The allocators of a call.
-#[derive(Drop)]
-pub struct Memory<A: Allocator> {
-    /// The allocator of all that a call keeps, but for its queue of what is owed to the caller.
-    pub alloc: A,
-    /// The allocator of that queue.
-    pub heap: Global,
-}
-
-/// A request that is to open a call, as it was received, with the memory that the call gets.
+/// A request that is to open a call, as it was received, with the allocator that the call gets.
 #[derive(Drop)]
 pub struct OpeningRequest<A: Allocator> {
-    pub memory: Memory<A>,
+    /// The allocator of all that the call keeps.
+    pub alloc: A,
     pub request: Message<A>,
     /// The address and the port that the request came from.
     pub source: Hop,

@@ -43,8 +43,7 @@ use crate::fault::PostFault;
 use crate::look::timer_c_at;
 use crate::reasons::ReasonLines;
 use call_answers::{
-    NewAnswer, PendingResponses, Queue, ResponseEvent, add_rows, again_if, count_of, first_owed,
-    owed_by,
+    OwedAnswer, PendingResponses, Queue, ResponseEvent, add_rows, again_if, first_owed, owed_by,
 };
 use call_branch::{
     Branch, CancelTransaction, ClientTransaction, Destination, OpenedRequest, ServerTransaction,
@@ -108,15 +107,13 @@ fn state_of<A: Allocator + Clone>(book: &Book<A>, n: u16) -> Option<State>
 
 impl<A: Allocator + Clone> CallState<A> {
     /// The state of a call that was opened with `opened`, with the book of its fork and, for each row of the table, where
-    /// its request goes. Nothing was sent yet; a 100 is owed to an INVITE (RFC 3261 sections 16.2 and 17.2.1). `heap` is
-    /// for the order in which more than four answers are owed at once, `alloc` for all else.
+    /// its request goes. Nothing was sent yet; a 100 is owed to an INVITE (RFC 3261 sections 16.2 and 17.2.1).
     ///
     /// # Errors
     ///
     /// Only where the allocator refuses.
     pub fn begin(
         alloc: A,
-        heap: Global,
         opened: OpenedRequest<A>,
         book: Book<A>,
         destinations: Vec<Destination<A>, A>,
@@ -126,7 +123,7 @@ impl<A: Allocator + Clone> CallState<A> {
         ensures { IfOk result (λ state. state ≡ begun opened book destinations.items) }
     {
         let branches = no_branches(alloc.clone()?, book.context().count())?;
-        let owed = first_owed(alloc.clone()?, heap, opened.kind());
+        let owed = first_owed(alloc.clone()?, opened.kind())?;
         let last = Vec::new(alloc.clone()?);
         let served = ServerTransaction::start(opened.kind(), now, opened.caller().transport);
         Ok(CallState {
@@ -417,7 +414,7 @@ impl<A: Allocator + Clone> CallState<A> {
     {
         new_rows_are_contacts();
         open_branches_take_events();
-        if self.owed.reserve(1, 0).is_err() {
+        if self.owed.reserve(1).is_err() {
             return Err(AllocError);
         }
         let at = match self.book.post(CALL_TAG, event) {
@@ -509,7 +506,7 @@ impl<A: Allocator + Clone> CallState<A> {
         if self.book.context().is_full(&event) {
             return Err(PostFault::Full);
         }
-        self.owed.reserve(1, count_of(&response))?;
+        self.owed.reserve(1)?;
         self.destinations.reserve(destinations.len())?;
         self.branches.reserve(destinations.len())?;
         let first = self.book.context().count();
@@ -557,7 +554,7 @@ impl<A: Allocator + Clone> CallState<A> {
         ensures err { OnErr result (self.new ≡ self.old) }
     {
         let (served, out) = self.served.fed(TxEvent::Request, now);
-        if self.owed.reserve(1, 0).is_err() {
+        if self.owed.reserve(1).is_err() {
             return Err(AllocError);
         }
         self.served = served;
@@ -596,7 +593,7 @@ impl<A: Allocator + Clone> CallState<A> {
         new_rows_are_contacts();
         open_branches_take_events();
         let reasons = self.reasons_in(&cancel)?;
-        if self.owed.reserve(2, 1).is_err() {
+        if self.owed.reserve(2).is_err() {
             return Err(AllocError);
         }
         let at = match self.book.post(CALL_TAG, Event::Cancel) {
@@ -605,7 +602,7 @@ impl<A: Allocator + Clone> CallState<A> {
             Err(PostError::Full(_)) => unreachable!(),
         };
         let up = up_at(&self.book, at);
-        self.owed.owe(NewAnswer::CancelOk(cancel, to));
+        self.owed.owe(OwedAnswer::CancelOk(cancel, to));
         self.owed.owe_if(owed_by(up, None));
         self.closing = Closing::ByCancel(reasons);
         Ok(Taken::Posted(at))
@@ -625,10 +622,10 @@ impl<A: Allocator + Clone> CallState<A> {
         if self.cancels() {
             return self.post_cancel(cancel, to);
         }
-        if self.owed.reserve(1, 1).is_err() {
+        if self.owed.reserve(1).is_err() {
             return Err(AllocError);
         }
-        self.owed.owe(NewAnswer::CancelOk(cancel, to));
+        self.owed.owe(OwedAnswer::CancelOk(cancel, to));
         Ok(Taken::Absorbed)
     }
 

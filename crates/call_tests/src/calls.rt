@@ -16,7 +16,7 @@ fn opened_by(alloc: Global, setup: &Setup<Global>) -> Option<Call> {
     if !is_openable(&invite) {
         return None;
     }
-    match Call::open(alloc, alloc, setup, 3, invite, SOURCE, 0) {
+    match Call::open(alloc, setup, 3, invite, SOURCE, 0) {
         Ok(call) => Some(call),
         Err(_) => None,
     }

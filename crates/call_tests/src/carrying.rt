@@ -88,7 +88,7 @@ fn opened_by(alloc: Global, setup: &Setup<Global>, changes: &[Change]) -> Option
     if !is_openable(&request) {
         return None;
     }
-    match Call::open(alloc, alloc, setup, 3, request, SOURCE, 0) {
+    match Call::open(alloc, setup, 3, request, SOURCE, 0) {
         Ok(call) => Some(call),
         Err(_) => None,
     }

@@ -2,7 +2,7 @@
 ghost use Rattle.std.specs.Prelude.{◌≡◌};
 
 use call_model::Datagram;
-use call_routing::{Memory, OpeningRequest, is_openable, open};
+use call_routing::{OpeningRequest, is_openable, open};
 use call_state::CallState;
 use proxy_config::Setup;
 use proxy_routing::RequestRejection;
@@ -114,7 +114,7 @@ pub fn opening_of(alloc: Global, request: Message<Global>) -> OpeningRequest<Glo
     ensures { result.request ≡ request }
 {
     OpeningRequest {
-        memory: Memory { alloc, heap: alloc },
+        alloc,
         request,
         source: SOURCE,
         now: 0,

@@ -344,7 +344,7 @@ fn begun_to(
     if usize::from(book.context().count()) != destinations.len() {
         return Err(AllocError);
     }
-    CallState::begin(alloc, alloc, opened, book, destinations, 0)
+    CallState::begin(alloc, opened, book, destinations, 0)
 }
 
 /// The parts of the call of the request of these lines to the two targets.

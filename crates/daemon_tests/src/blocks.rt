@@ -8,7 +8,7 @@ use call_table::Shelf;
 use daemon_parts::{DaemonFault, Options};
 use fork_call::{Call, Setup};
 use fork_daemon::{check_config, serve_text};
-use proxy_dispatch::{Handled, Memory, Received, SharedCalls, Unlimited, handle};
+use proxy_dispatch::{Handled, Received, SharedCalls, Unlimited, handle};
 use proxy_service::append_block;
 use sip_uri::{Hop, Transport};
 use std::alloc::Global;
@@ -81,10 +81,7 @@ impl Scene {
 
     /// Whether the request opens the call 0.
     fn opens<R: Wait>(&mut self, rt: &R) -> bool {
-        let memory = Memory {
-            alloc: self.alloc,
-            heap: self.alloc,
-        };
+        let alloc = self.alloc;
         let received = Received {
             bytes: REQUEST,
             source: SOURCE,
@@ -92,8 +89,7 @@ impl Scene {
         };
         let mut calls = SharedCalls::new(&self.calls);
         let (setup, outbox) = (&self.setup, &mut self.outbox);
-        handle(rt, memory, &mut calls, setup, &Unlimited, received, outbox)
-            == Ok(Handled::Opened(0))
+        handle(rt, alloc, &mut calls, setup, &Unlimited, received, outbox) == Ok(Handled::Opened(0))
     }
 
     /// The block of the call 0.

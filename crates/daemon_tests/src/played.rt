@@ -5,7 +5,7 @@ use crate::texts::{
     CALLER, CONFIGURATION, Request, answer_text, has, place_of, request_text, tag_of,
 };
 use daemon_parts::{DaemonFault, Identity, read_text};
-use proxy_dispatch::{Memory, Received};
+use proxy_dispatch::Received;
 use proxy_service::{Service, State, Terms};
 use sip_uri::Hop;
 use std::alloc::{Allocator, Global};
@@ -95,13 +95,14 @@ const NUMBER: u32 = 99;
 /// How many seconds the clock may go on while a history is played.
 const SLACK: u64 = 30;
 
-/// A service that reads this configuration, and has its memory from there.
+/// A service that reads this configuration: its calls have their memory from `alloc`, all else from `heap`.
 pub fn service_over<A: Allocator + Copy>(
-    memory: Memory<A>,
+    alloc: A,
+    heap: Global,
     text: &[u8],
     served: Served,
 ) -> Option<Service<A>> {
-    let setup = read_text(memory.alloc, text, NUMBER).ok()?;
+    let setup = read_text(alloc, text, NUMBER).ok()?;
     let setup = match served.ring {
         Some(longest) => setup.ringing(longest),
         None => setup,
@@ -114,12 +115,12 @@ pub fn service_over<A: Allocator + Copy>(
         most_calls: served.most_calls,
         has_journal: served.has_journal,
     };
-    Service::new(memory, setup, terms).ok()
+    Service::new(alloc, heap, setup, terms).ok()
 }
 
 /// A service that reads this configuration.
 pub fn service_of(alloc: Global, text: &[u8], served: Served) -> Option<Service> {
-    service_over(Memory { alloc, heap: alloc }, text, served)
+    service_over(alloc, alloc, text, served)
 }
 
 /// The last datagram of this method and call that was sent to an address.
@@ -163,17 +164,17 @@ pub struct Played<A: Allocator + Copy = Global> {
 }
 
 impl<A: Allocator + Copy> Played<A> {
-    /// A service that reads this configuration and has its memory from there, to which nothing has come.
-    pub fn new(memory: Memory<A>, text: &[u8], served: Served) -> Option<Played<A>> {
-        let alloc = memory.heap;
+    /// A service that reads this configuration, to which nothing has come: its calls have their memory from `alloc`, all else
+    /// from `heap`.
+    pub fn new(alloc: A, heap: Global, text: &[u8], served: Served) -> Option<Played<A>> {
         Some(Played {
-            alloc,
-            service: service_over(memory, text, served)?,
-            outgoing: Outgoing::new(alloc),
+            alloc: heap,
+            service: service_over(alloc, heap, text, served)?,
+            outgoing: Outgoing::new(heap),
             seen: 0,
-            looked_at: Vec::new(alloc),
+            looked_at: Vec::new(heap),
             until: 0,
-            blocks: Vec::new(alloc),
+            blocks: Vec::new(heap),
         })
     }
 
@@ -493,8 +494,7 @@ pub fn plays_by<R: Abort + Wait + Clock>(
     history: &[Moment],
     what: &str,
 ) {
-    let memory = Memory { alloc, heap: alloc };
-    let played = match Played::new(memory, text, served) {
+    let played = match Played::new(alloc, alloc, text, served) {
         Some(mut played) => played.played(rt, history),
         None => usize::MAX,
     };

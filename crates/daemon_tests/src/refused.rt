@@ -2,7 +2,6 @@
 use crate::holds::holds;
 use crate::played::{Moment, PLAIN, Played, Served, Turn};
 use crate::texts::{BOB, CALLER, CONFIGURATION, INVITE, OPTIONS, Request};
-use proxy_dispatch::Memory;
 use refusing::Refusing;
 use std::alloc::Global;
 use std::sync::Wait;
@@ -31,13 +30,9 @@ const MOST_GROWTHS: u64 = 100_000;
 /// A service whose memory may be refused.
 type Scarce<'a> = Played<&'a Refusing<Global>>;
 
-/// A service over this memory.
+/// A service whose calls have their memory from there, and all else from `alloc`.
 fn scarce<'a>(alloc: Global, heap: &'a Refusing<Global>) -> Option<Scarce<'a>> {
-    let memory = Memory {
-        alloc: heap,
-        heap: alloc,
-    };
-    Played::new(memory, CONFIGURATION, TWO)
+    Played::new(heap, alloc, CONFIGURATION, TWO)
 }
 
 /// Whether a service goes as a history tells.

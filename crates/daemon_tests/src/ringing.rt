@@ -2,7 +2,6 @@
 use crate::holds::holds;
 use crate::played::{Moment, PLAIN, Played, Served, Turn, plays};
 use crate::texts::{BOB, CALLER, CANCEL, CAROL, CAROL_AFTERWARDS, INVITE, Request};
-use proxy_dispatch::Memory;
 use std::alloc::Global;
 use std::sync::Wait;
 use std::time::Clock;
@@ -189,8 +188,7 @@ const DECLINED: [Moment; 4] = [
 
 /// Whether a call to two telephones that ring goes on so.
 fn ends_so<R: Wait + Clock>(rt: &R, alloc: Global, end: &[Moment]) -> bool {
-    let memory = Memory { alloc, heap: alloc };
-    match Played::new(memory, TWO, PLAIN) {
+    match Played::new(alloc, alloc, TWO, PLAIN) {
         Some(mut played) => {
             played.played(rt, &RINGING) == RINGING.len() && played.played(rt, end) == end.len()
         }

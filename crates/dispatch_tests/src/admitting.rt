@@ -1,9 +1,7 @@
 //! Requests that may open calls: of which it is asked whether they are admitted, what becomes of them, and what is told then.
 use crate::holds::holds;
 use crate::outbox::Outbox;
-use crate::texts::{
-    CALL_ID, FROM, MARKED, SOURCE, TAGGED, TO, VIA, memory_of, setup_of, shelf_of, text_of,
-};
+use crate::texts::{CALL_ID, FROM, MARKED, SOURCE, TAGGED, TO, VIA, setup_of, shelf_of, text_of};
 use call_table::Shelf;
 use fork_call::{Call, Setup};
 use proxy_dispatch::{Admission, Handled, Opener, Received, SharedCalls, handle};
@@ -213,10 +211,12 @@ impl Scene {
             source: SOURCE,
             now: 0,
         };
-        let memory = memory_of(self.alloc);
         let mut calls = SharedCalls::new(&self.shelf);
         let outbox = &mut self.outbox;
-        handle(rt, memory, &mut calls, setup, &self.gate, received, outbox).ok()
+        handle(
+            rt, self.alloc, &mut calls, setup, &self.gate, received, outbox,
+        )
+        .ok()
     }
 
     /// Whether each datagram of the history becomes what it is to become.

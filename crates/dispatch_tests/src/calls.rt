@@ -4,8 +4,7 @@ ghost use Rattle.std.specs.Prelude.{◌≡◌, IfSome};
 use crate::holds::holds;
 use crate::outbox::Outbox;
 use crate::texts::{
-    CALL_ID, Edit, FROM, MARKED, SOURCE, becomes, lines_become, memory_of, request_of, setup_of,
-    shelf_of,
+    CALL_ID, Edit, FROM, MARKED, SOURCE, becomes, lines_become, request_of, setup_of, shelf_of,
 };
 use call_routing::is_openable;
 use call_table::{Shelf, ShelfFault};
@@ -105,7 +104,7 @@ fn opened_by(alloc: Global, setup: &Setup<Global>, number: u64) -> Option<Call<G
     if !is_openable(&request) {
         return None;
     }
-    match Call::open(alloc, alloc, setup, number, request, SOURCE, 0) {
+    match Call::open(alloc, setup, number, request, SOURCE, 0) {
         Ok(call) => Some(call),
         Err(_) => None,
     }
@@ -271,7 +270,7 @@ fn read_becomes<R: Wait>(rt: &R, alloc: Global) -> Option<Handled> {
     let setup = setup_of(alloc)?;
     let shelf = shelf_of(alloc)?;
     let received = ReceivedMessage {
-        memory: memory_of(alloc),
+        alloc,
         message: Message::read(alloc, &text).ok()?,
         source: SOURCE,
         now: 0,

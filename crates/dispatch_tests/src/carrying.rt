@@ -1,7 +1,7 @@
 //! Calls on a shelf: what they are fed, what they send, and what was posted to them.
 ghost use Rattle.std.specs.Prelude.{◌≡◌};
 
-use crate::texts::{SOURCE, memory_of, text_of};
+use crate::texts::{SOURCE, text_of};
 use call_table::Shelf;
 use fork_call::{Call, Port, Setup, carry};
 use fork_context::Event;
@@ -48,7 +48,7 @@ pub fn serves<R: Abort + Wait, P: Port>(
     };
     let handled = handle(
         rt,
-        memory_of(alloc),
+        alloc,
         &mut SharedCalls::new(shelf),
         setup,
         &Unlimited,

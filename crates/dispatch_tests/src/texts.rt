@@ -2,7 +2,7 @@
 use crate::outbox::Outbox;
 use call_table::Shelf;
 use fork_call::{Call, Setup};
-use proxy_dispatch::{Handled, Memory, Received, SharedCalls, Unlimited, handle};
+use proxy_dispatch::{Handled, Received, SharedCalls, Unlimited, handle};
 use sip_uri::{Hop, Transport};
 use std::alloc::Global;
 use std::sync::Wait;
@@ -120,11 +120,6 @@ pub fn shelf_of(alloc: Global) -> Option<Shelf<Call<Global>>> {
     }
 }
 
-/// The memory of calls that is all in this allocator.
-pub fn memory_of(alloc: Global) -> Memory<Global> {
-    Memory { alloc, heap: alloc }
-}
-
 /// What becomes of a text by a setup.
 pub fn text_becomes<R: Wait>(
     rt: &R,
@@ -141,7 +136,7 @@ pub fn text_becomes<R: Wait>(
     };
     match handle(
         rt,
-        memory_of(alloc),
+        alloc,
         &mut SharedCalls::new(shelf),
         setup,
         &Unlimited,

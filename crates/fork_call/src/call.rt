@@ -28,7 +28,7 @@ use crate::timing::time_step;
 use call_branch::status_of;
 use call_laws::{calls_send_right, what_is_sent_is_right};
 use call_model::{Cause, Step, Taken, calls_stay_sound};
-use call_routing::{MatchedTransaction, Memory, OpeningRequest, match_response, match_transaction};
+use call_routing::{MatchedTransaction, OpeningRequest, match_response, match_transaction};
 use call_state::CallState;
 use call_table::{Numbered, Pending};
 use fork_book::Book;
@@ -89,15 +89,13 @@ impl<A: Allocator + Clone> Model for Call<A> {
 impl<A: Allocator + Clone> Call<A> {
     /// The call that a request from `source` opens under this number; the request is neither an ACK nor a CANCEL. The
     /// targets of a request to the domain are the locations of its user; the one target of any other is its Request-URI
-    /// (RFC 3261 sections 16.3 to 16.6). Nothing was sent yet; a 100 is owed to an INVITE. The queue of what is owed to the
-    /// caller lies on `heap`, all else in `alloc`.
+    /// (RFC 3261 sections 16.3 to 16.6). Nothing was sent yet; a 100 is owed to an INVITE.
     ///
     /// # Errors
     ///
     /// The first of those of [`RequestRejection`] that holds; `NoMemory` wherever the allocator refuses.
     pub fn open(
         alloc: A,
-        heap: Global,
         setup: &Setup<A>,
         number: u64,
         request: Message<A>,
@@ -109,7 +107,7 @@ impl<A: Allocator + Clone> Call<A> {
         ensures refused { IfErr result (Refuses setup.now request source) }
     {
         let opening = OpeningRequest {
-            memory: Memory { alloc, heap },
+            alloc,
             request,
             source,
             now,

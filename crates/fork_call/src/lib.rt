@@ -16,7 +16,7 @@ mod timing;
 
 pub use call::Call;
 pub use call_model::{Cause, Datagram, Step, Taken};
-pub use call_routing::{Memory, OpeningRequest};
+pub use call_routing::OpeningRequest;
 pub use fault::TakeFault;
 pub use fork_book::Book;
 pub use law::{

@@ -53,8 +53,8 @@ impl<A: Allocator + Clone> PendingCall<A> {
     {
         calls_stay_sound();
         calls_send_right();
-        let own = opening.memory.alloc.clone()?;
-        let rest = opening.memory.alloc.clone()?;
+        let own = opening.alloc.clone()?;
+        let rest = opening.alloc.clone()?;
         let state = match call_routing::open(setup, opening) {
             Ok(state) => state,
             Err(unrouted) => return Err(unrouted),

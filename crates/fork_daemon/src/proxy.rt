@@ -4,7 +4,6 @@ use crate::idle::IdleWorkers;
 use daemon_parts::{Identity, Options, ProxyFiles, most_calls_here};
 use fork_call::Setup;
 use fork_clock::{Epoch, Watch};
-use proxy_dispatch::Memory;
 use proxy_service::{Service, Terms};
 use sip_uri::Hop;
 use source_limit::SourceLimits;
@@ -108,7 +107,7 @@ impl Proxy {
         let paths = paths_of(alloc, start.options)?;
         Ok(Proxy {
             alloc,
-            service: Service::new(Memory { alloc, heap: alloc }, setup, terms)?,
+            service: Service::new(alloc, alloc, setup, terms)?,
             own,
             epoch,
             receiving: Mutex::new(source_limits(alloc, start.options.most_per_source)),

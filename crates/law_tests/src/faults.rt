@@ -20,7 +20,7 @@ fn fault_of(
     ensures { IfSome result (λ fault. fault ≢ RequestRejection.NoMemory → HoldsAlone setup.now request CALLER fault) }
 {
     one_fault_holds();
-    match Call::open(alloc, alloc, setup, 3, request, CALLER, 0) {
+    match Call::open(alloc, setup, 3, request, CALLER, 0) {
         Ok(_) => None,
         Err(fault) => Some(fault),
     }

@@ -32,7 +32,7 @@ pub fn open(alloc: Global, setup: &Setup<Global>, request: Message<Global>) -> O
     requires { IsOpenable request.start }
     ensures { IfSome result (Opens setup.now 3 request CALLER) }
 {
-    match Call::open(alloc, alloc, setup, 3, request, CALLER, 0) {
+    match Call::open(alloc, setup, 3, request, CALLER, 0) {
         Ok(call) => Some(call),
         Err(_) => None,
     }

@@ -17,7 +17,7 @@ use crate::purpose::{is_answered, purpose_of};
 use crate::received::{Received, ReceivedMessage};
 use crate::requests::requested;
 use crate::responses::responded;
-use fork_call::{Datagram, Memory, Port, Setup};
+use fork_call::{Datagram, Port, Setup};
 use sip_build::OwnStatus;
 use sip_text::{Message, ReadFault, faults_are_of_the_text};
 use sip_uri::Hop;
@@ -116,7 +116,7 @@ fn hand<A: Allocator, P: Port>(port: &mut P, sent: &Option<Datagram<A>>)
 /// Handles a message that was received (RFC 3261 sections 16.2, 16.7, 16.11, 17.1.3, 17.2.3 and 18): the call that it belongs to
 /// takes it, or it opens one, or it is answered, sent on or dropped without one. An answer or an ACK that cannot be sent is lost, as
 /// on the way. Nothing else is handed to the port: what a call then has to send is for `carry`. A call that is opened has its memory
-/// from `received.memory`.
+/// from `received.alloc`.
 ///
 /// A response is given to the call that its top Via value names, a request to the call that has its key. A CANCEL is answered 481,
 /// and a request opens a call, only where the look at its key found none.
@@ -158,7 +158,7 @@ pub fn handle_message<A: Allocator + Clone, N: Admission, P: Port, R: Wait>(
 /// Only where the allocator refuses; no call has changed then, none was opened, and nothing was sent.
 pub fn handle<A: Allocator + Clone, N: Admission, P: Port, R: Wait>(
     rt: &R,
-    memory: Memory<A>,
+    alloc: A,
     table: &mut SharedCalls<'_, A>,
     setup: &Setup<A>,
     admission: &N,
@@ -175,14 +175,14 @@ pub fn handle<A: Allocator + Clone, N: Admission, P: Port, R: Wait>(
 {
     faults_are_of_the_text();
     let Received { bytes, source, now } = received;
-    match Message::read(memory.alloc.clone()?, bytes) {
+    match Message::read(alloc.clone()?, bytes) {
         Ok(message) => handle_message(
             rt,
             table,
             setup,
             admission,
             ReceivedMessage {
-                memory,
+                alloc,
                 message,
                 source,
                 now,
@@ -190,7 +190,7 @@ pub fn handle<A: Allocator + Clone, N: Admission, P: Port, R: Wait>(
             port,
         ),
         Err(fault) => {
-            let outcome = of_fault(memory.alloc, fault, source)?;
+            let outcome = of_fault(alloc, fault, source)?;
             hand(port, &outcome.datagram);
             Ok(outcome.handled)
         }

@@ -20,5 +20,4 @@ mod responses;
 pub use admission::{Admission, Opener, Unlimited};
 pub use calls::{ReadBranch, SharedCalls};
 pub use datagrams::{Handled, handle, handle_message};
-pub use fork_call::Memory;
 pub use received::{Received, ReceivedMessage};

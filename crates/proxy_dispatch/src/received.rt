@@ -1,5 +1,4 @@
 //! Datagrams and messages as they were received.
-use fork_call::Memory;
 use sip_text::Message;
 use sip_uri::Hop;
 use std::alloc::Allocator;
@@ -15,10 +14,10 @@ pub struct Received<'a> {
     pub now: u64,
 }
 
-/// A message as it was received, with the memory for what it opens.
+/// A message as it was received, with the allocator for what it opens.
 #[derive(Drop)]
 pub struct ReceivedMessage<A: Allocator> {
-    pub memory: Memory<A>,
+    pub alloc: A,
     pub message: Message<A>,
     /// The address and the port that it came from.
     pub source: Hop,

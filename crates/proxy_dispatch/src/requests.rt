@@ -86,14 +86,13 @@ fn opened<A: Allocator + Clone, R: Wait>(
         × OpeningBecomes setup.now received.message received.source received.now key.items looks outcome.handled (seen_sent outcome.datagram)) }
 {
     let ReceivedMessage {
-        memory,
+        alloc,
         message: request,
         source,
         now,
     } = received;
-    let alloc = memory.alloc.clone()?;
     let opening = OpeningRequest {
-        memory,
+        alloc: alloc.clone()?,
         request,
         source,
         now,
@@ -121,8 +120,8 @@ fn admitted<A: Allocator + Clone, R: Wait>(
         × AdmittedBecomes (asks_service setup.now received.message) setup.now received.message received.source received.now key.items
         looks outcome.handled (seen_sent outcome.datagram)) }
 {
-    if asks_service(received.memory.alloc.clone()?, setup, &received.message)? {
-        return told(received.memory.alloc, received.message, received.source);
+    if asks_service(received.alloc.clone()?, setup, &received.message)? {
+        return told(received.alloc, received.message, received.source);
     }
     opened(rt, table, setup, key, received)
 }
@@ -151,7 +150,7 @@ fn asked<A: Allocator + Clone, N: Admission, R: Wait>(
         looks outcome.handled (seen_sent outcome.datagram)) }
 {
     if !admission.admits(rt, opener_of(&received.message)) {
-        return turned_away(received.memory.alloc, received.message, received.source);
+        return turned_away(received.alloc, received.message, received.source);
     }
     let outcome = admitted(rt, table, setup, key, received);
     if !has_opened(&outcome) {
@@ -179,14 +178,9 @@ fn unknown<A: Allocator + Clone, N: Admission, R: Wait>(
         looks outcome.handled (seen_sent outcome.datagram)) }
 {
     match purpose {
-        Purpose::Ack => acknowledged(
-            received.memory.alloc,
-            setup,
-            received.message,
-            received.source,
-        ),
+        Purpose::Ack => acknowledged(received.alloc, setup, received.message, received.source),
         Purpose::Cancel => answered(
-            received.memory.alloc,
+            received.alloc,
             received.message,
             received.source,
             OwnStatus::CallDoesNotExist,
@@ -194,7 +188,7 @@ fn unknown<A: Allocator + Clone, N: Admission, R: Wait>(
         Purpose::Opening => match key {
             Some(key) => asked(rt, table, setup, admission, key, received),
             None => answered(
-                received.memory.alloc,
+                received.alloc,
                 received.message,
                 received.source,
                 OwnStatus::BadRequest,
@@ -222,7 +216,7 @@ pub(crate) fn requested<A: Allocator + Clone, N: Admission, R: Wait>(
         × RequestBecomes (N.admitted admission.now) setup.now received.message received.source received.now purpose
         looks outcome.handled (seen_sent outcome.datagram)) }
 {
-    let key = key_of(received.memory.alloc.clone()?, &received.message)?;
+    let key = key_of(received.alloc.clone()?, &received.message)?;
     let Some(text) = &key else {
         return unknown(rt, table, setup, admission, key, received, purpose);
     };

@@ -62,7 +62,7 @@ struct Server {
 
 impl Crew for Server {
     fn do_jobs<R: Wait + Log>(&self, rt: &R, jobs: JobReceiver<'_, Job>) {
-        self.proxy.work(rt, self.proxy.alloc, jobs);
+        self.proxy.work(rt, jobs);
     }
 
     fn receive<R: Wait + Log>(

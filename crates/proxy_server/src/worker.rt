@@ -8,7 +8,7 @@ use call_table::Shelf;
 use fork_call::{Call, Port, Setup, carry};
 use fork_clock::Schedule;
 use log::Log;
-use proxy_dispatch::{Handled, Memory, Received, SharedCalls, Unlimited, handle};
+use proxy_dispatch::{Handled, Received, SharedCalls, Unlimited, handle};
 use std::alloc::{AllocError, Allocator, Global};
 use std::sync::Wait;
 use worker_jobs::JobReceiver;
@@ -24,8 +24,8 @@ const JOBS_BETWEEN: u32 = 256;
 
 /// Asks the allocator for memory and gives it back, so that the allocator holds some ready for what a worker keeps.
 /// Else the C library gets each page of a thread's memory by a system call of its own.
-fn hold_ready(heap: Global) {
-    let asked: Result<Vec<u8, Global>, AllocError> = Vec::with_capacity(heap, READY);
+fn hold_ready<A: Allocator>(alloc: A) {
+    let asked: Result<Vec<u8, A>, AllocError> = Vec::with_capacity(alloc, READY);
     drop(asked);
 }
 
@@ -86,20 +86,13 @@ impl<A: Allocator + Clone> Proxy<A> {
     }
 
     /// Handles a datagram, and carries the call that it opened or that took it.
-    fn take<R: Wait + Log, P: Port>(
-        &self,
-        rt: &R,
-        heap: Global,
-        port: &mut P,
-        received: Received<'_>,
-    ) {
+    fn take<R: Wait + Log, P: Port>(&self, rt: &R, port: &mut P, received: Received<'_>) {
         let Ok(alloc) = self.alloc.clone() else {
             return self.refused.note(rt, "datagrams left for want of memory");
         };
-        let memory = Memory { alloc, heap };
         let mut calls = SharedCalls::new(&self.calls);
         let setup = &self.setup;
-        match handle(rt, memory, &mut calls, setup, &Unlimited, received, port) {
+        match handle(rt, alloc, &mut calls, setup, &Unlimited, received, port) {
             Ok(Handled::Opened(number) | Handled::Delivered(number)) => {
                 self.carry(rt, port, number, received.now);
             }
@@ -137,19 +130,16 @@ impl<A: Allocator + Clone> Proxy<A> {
         failures
     }
 
-    /// Does the jobs that a worker is given, until the end job. The queues of the calls that it opens lie on `heap`.
-    pub(crate) fn work<R: Wait + Log>(
-        &self,
-        rt: &R,
-        heap: Global,
-        mut jobs: JobReceiver<'_, Job<A>, A>,
-    ) {
+    /// Does the jobs that a worker is given, until the end job.
+    pub(crate) fn work<R: Wait + Log>(&self, rt: &R, mut jobs: JobReceiver<'_, Job<A>, A>) {
         let mut port = SocketPort::new(&self.socket);
         let mut left = 0u32;
         let mut noted = 0u64;
         for _ in rt.forever() {
             if left == 0 {
-                hold_ready(heap);
+                if let Ok(alloc) = self.alloc.clone() {
+                    hold_ready(alloc);
+                }
                 left = JOBS_BETWEEN;
             }
             left = left.wrapping_sub(1);
@@ -160,7 +150,7 @@ impl<A: Allocator + Clone> Proxy<A> {
                         source,
                         now,
                     };
-                    self.take(rt, heap, &mut port, received);
+                    self.take(rt, &mut port, received);
                 }
                 Job::Tick(now) => self.tick(rt, &mut port, now),
                 Job::Finish => return,

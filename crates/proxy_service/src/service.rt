@@ -8,7 +8,6 @@ use crate::terms::Terms;
 use daemon_parts::{Counts, DaemonFault, Gauges};
 use fork_call::Setup;
 use fork_clock::Schedule;
-use proxy_dispatch::Memory;
 use std::alloc::{AllocError, Allocator, Global};
 use std::mem;
 use std::sync::{RwLock, Wait};
@@ -34,13 +33,18 @@ pub struct Service<A: Allocator + Copy = Global> {
 }
 
 impl<A: Allocator + Copy> Service<A> {
-    /// A service without a call, by this setup.
+    /// A service without a call, by this setup. Calls and their deadlines, the configuration, and what is made while a datagram is
+    /// handled have their memory from `alloc`, all else from `heap`.
     ///
     /// # Errors
     ///
     /// Only where the allocator refuses.
-    pub fn new(memory: Memory<A>, setup: Setup<A>, terms: Terms) -> Result<Service<A>, AllocError> {
-        let Memory { alloc, heap } = memory;
+    pub fn new(
+        alloc: A,
+        heap: Global,
+        setup: Setup<A>,
+        terms: Terms,
+    ) -> Result<Service<A>, AllocError> {
         let calls = Calls::new(alloc, heap)?;
         Ok(Service {
             alloc,

@@ -3,7 +3,7 @@ use crate::quota::QuotaAt;
 use crate::service::Service;
 use daemon_parts::is_keep_alive;
 use fork_call::Port;
-use proxy_dispatch::{Handled, Memory, Received, SharedCalls, handle};
+use proxy_dispatch::{Handled, Received, SharedCalls, handle};
 use std::alloc::{AllocError, Allocator};
 use std::sync::Wait;
 use std::time::Clock;
@@ -16,10 +16,6 @@ impl<A: Allocator + Copy> Service<A> {
         port: &mut P,
         received: Received<'_>,
     ) -> Result<Handled, AllocError> {
-        let memory = Memory {
-            alloc: self.alloc,
-            heap: self.heap,
-        };
         let places = QuotaAt {
             quota: &self.quota,
             lifetime: &self.lifetime,
@@ -27,7 +23,7 @@ impl<A: Allocator + Copy> Service<A> {
         };
         let setup = self.setup.read(rt);
         let mut calls = SharedCalls::new(&self.calls.shelf);
-        handle(rt, memory, &mut calls, &*setup, &places, received, port)
+        handle(rt, self.alloc, &mut calls, &*setup, &places, received, port)
     }
 
     /// Counts what became of a datagram, and carries the call that it opened or that took it.

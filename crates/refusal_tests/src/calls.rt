@@ -16,7 +16,6 @@ use fork_context::Event;
 use refusing::{Answer, Heap, Play, Repeated, Stateless};
 use sip_text::Message;
 use sip_uri::Hop;
-use std::alloc::Global;
 use std::process::Abort;
 
 /// What a configuration says, or why that is not known.
@@ -46,7 +45,6 @@ impl Stateless for SettingUp {
 /// A call is opened as number 3.
 #[derive(Clone, Copy)]
 struct Opening {
-    global: Global,
     setup: &'static [u8],
     request: &'static [u8],
 }
@@ -57,21 +55,20 @@ type Opened<'a> = Result<Call<Alloc<'a>>, Answer>;
 /// The call that this request opens.
 fn opened_by<'a>(
     heap: Heap<'a>,
-    global: Global,
     setup: &Setup<Alloc<'a>>,
     request: Message<Alloc<'a>>,
 ) -> Opened<'a> {
     if !is_openable(&request) {
         return Err(Answer::Wrong);
     }
-    let call = Call::open(heap.scarce, global, setup, 3, request, CALLER, 0);
+    let call = Call::open(heap.scarce, setup, 3, request, CALLER, 0);
     answered(call, RequestRejection::NoMemory)
 }
 
 /// The call that is opened with this configuration.
 fn opened_with<'a>(heap: Heap<'a>, setup: &Setup<Alloc<'a>>, opening: Opening) -> Opened<'a> {
     match read(heap.ample, opening.request) {
-        Ok(request) => opened_by(heap, opening.global, setup, request),
+        Ok(request) => opened_by(heap, setup, request),
         Err(_) => Err(Answer::Wrong),
     }
 }
@@ -253,7 +250,6 @@ fn goes_at(playing: &mut Playing<'_>, (now, turn): Moment) -> bool {
 /// A call: what it is set up with, the request that opens it, and what happens then.
 #[derive(Clone, Copy)]
 pub struct History {
-    pub global: Global,
     pub setup: &'static [u8],
     pub request: &'static [u8],
     pub moments: &'static [Moment],
@@ -289,7 +285,6 @@ fn goes_on<'a>(heap: Heap<'a>, call: Call<Alloc<'a>>, history: &History) -> bool
 impl Play for History {
     fn play(&self, heap: Heap<'_>) -> bool {
         let opening = Opening {
-            global: self.global,
             setup: self.setup,
             request: self.request,
         };
@@ -420,6 +415,27 @@ const ALL_LOST: &[Moment] = &[
     (32_030, Turn::Waits(None)),
 ];
 
+/// An INVITE whose target rings five times before the caller is told of it: five answers are owed at once, which takes two growths of
+/// the queue that they stand in, and one more once it was empty again.
+const RINGS_OFTEN: &[Moment] = &[
+    (0, Turn::Sends(&TRYING)),
+    (0, Turn::Sends(&INVITE_SENT)),
+    (20, Turn::Takes(TARGET, RINGING, Ok(Taken::Posted(0)))),
+    (21, Turn::Takes(TARGET, RINGING, Ok(Taken::Posted(1)))),
+    (22, Turn::Takes(TARGET, RINGING, Ok(Taken::Posted(2)))),
+    (23, Turn::Takes(TARGET, RINGING, Ok(Taken::Posted(3)))),
+    (24, Turn::Takes(TARGET, RINGING, Ok(Taken::Posted(4)))),
+    (24, Turn::Sends(&RINGING_UP)),
+    (24, Turn::Sends(&RINGING_UP)),
+    (24, Turn::Sends(&RINGING_UP)),
+    (24, Turn::Sends(&RINGING_UP)),
+    (24, Turn::Sends(&RINGING_UP)),
+    (30, Turn::Takes(TARGET, TERMINATED, Ok(Taken::Posted(5)))),
+    (30, Turn::Sends(&TERMINATED_UP)),
+    (30, Turn::Sends(&ACK_SENT)),
+    (30, Turn::Waits(Some(530))),
+];
+
 #[test]
 fn configurations_are_read(rt: HostRuntime) {
     calls(&rt, &SettingUp { text: SETUP }, 0, "a configuration");
@@ -432,11 +448,7 @@ const OPENINGS: &[(&[u8], &[u8])] = &[(SETUP, OPTIONS), (SETUP, INVITE), (FORK_S
 #[test]
 fn calls_are_opened(rt: HostRuntime) {
     for &(setup, request) in OPENINGS {
-        let opening = Opening {
-            global: rt.alloc(),
-            setup,
-            request,
-        };
+        let opening = Opening { setup, request };
         calls(&rt, &opening, 0, "a call opens");
     }
 }
@@ -449,7 +461,6 @@ fn goes(
     what: &str,
 ) {
     let history = History {
-        global: rt.alloc(),
         setup: SETUP,
         request,
         moments,
@@ -494,4 +505,10 @@ fn calls_go_on(rt: HostRuntime) {
     for &(moments, what) in invited() {
         goes(&rt, INVITE, moments, what);
     }
+}
+
+#[test]
+fn five_answers_are_owed_at_once(rt: HostRuntime) {
+    let what = "an INVITE for which five answers are owed at once";
+    goes(&rt, INVITE, RINGS_OFTEN, what);
 }

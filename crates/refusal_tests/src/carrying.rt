@@ -13,7 +13,6 @@ use crate::plays::{holds, plays};
 use crate::wanted;
 use fork_call::{TakeFault, Taken};
 use refusing::{refused_always, refused_never};
-use std::alloc::Global;
 
 /// An INVITE to five targets: the first and the fifth answer 404, and the first once more; the second and the third ring; the
 /// caller cancels; then the fourth rings, too. Each of the three is cancelled and answers 487, and the first 404 goes up,
@@ -88,9 +87,8 @@ const CANCELLED: &[Moment] = &[
 ];
 
 /// The call to five targets whose send of this number fails; where that is 0, none does.
-fn to_five(global: Global, fails: u64) -> History {
+fn to_five(fails: u64) -> History {
     History {
-        global,
         setup: FORK_SETUP,
         request: INVITE,
         moments: FORK,
@@ -100,9 +98,8 @@ fn to_five(global: Global, fails: u64) -> History {
 }
 
 /// The call of an OPTIONS request whose send of this number fails; where that is 0, none does.
-fn asked(global: Global, fails: u64) -> History {
+fn asked(fails: u64) -> History {
     History {
-        global,
         setup: SETUP,
         request: OPTIONS,
         moments: FAILING,
@@ -112,9 +109,8 @@ fn asked(global: Global, fails: u64) -> History {
 }
 
 /// The call to one target.
-fn to_one(global: Global) -> History {
+fn to_one() -> History {
     History {
-        global,
         setup: SETUP,
         request: INVITE,
         moments: CANCELLED,
@@ -125,27 +121,22 @@ fn to_one(global: Global) -> History {
 
 #[test]
 fn a_carry_goes_on_where_it_was_refused(rt: HostRuntime) {
-    plays(&rt, &to_five(rt.alloc(), 0), 0, "an INVITE to five targets");
-    plays(
-        &rt,
-        &asked(rt.alloc(), 0),
-        0,
-        "an OPTIONS request that is carried",
-    );
-    plays(&rt, &to_one(rt.alloc()), 0, "an INVITE that is carried");
+    plays(&rt, &to_five(0), 0, "an INVITE to five targets");
+    plays(&rt, &asked(0), 0, "an OPTIONS request that is carried");
+    plays(&rt, &to_one(), 0, "an INVITE that is carried");
 }
 
 #[test]
 fn a_send_that_fails_loses_that_datagram_alone(rt: HostRuntime) {
     // (with memory enough the call is told of the loss; where memory ends at each growth it is not told of a request's)
     for fails in 1..=wanted::FORK_SENDS {
-        let history = to_five(rt.alloc(), fails);
+        let history = to_five(fails);
         let is_right = refused_never(rt.alloc(), &history);
         let well = is_right && refused_always(rt.alloc(), &history);
         holds(&rt, well, "an INVITE to five targets of which a send fails");
     }
     for fails in 1..=wanted::OPTIONS_SENDS {
-        let history = asked(rt.alloc(), fails);
+        let history = asked(fails);
         plays(&rt, &history, 0, "an OPTIONS request of which a send fails");
     }
 }

@@ -8,10 +8,10 @@ use crate::plays::plays;
 use crate::sources::Alloc;
 use call_table::Shelf;
 use fork_call::{Call, Datagram, Port, Setup, carry};
-use proxy_dispatch::{Handled, Memory, Received, SharedCalls, Unlimited, handle};
+use proxy_dispatch::{Handled, Received, SharedCalls, Unlimited, handle};
 use refusing::{Answer, Heap, Play, Repeated};
 use sip_uri::Hop;
-use std::alloc::{Allocator, Global};
+use std::alloc::Allocator;
 use std::sync::Wait;
 
 /// The 404 of the target, for call 0.
@@ -159,7 +159,6 @@ type Calls<'a> = Shelf<Call<Alloc<'a>>, Alloc<'a>>;
 struct Proxy<'s, 'a, R> {
     rt: &'s R,
     scarce: Alloc<'a>,
-    global: Global,
     shelf: &'s Calls<'a>,
     setup: &'s Setup<Alloc<'a>>,
     port: Counting,
@@ -222,10 +221,6 @@ fn carries<R: Wait>(rt: &R, shelf: &Calls<'_>, port: &mut Counting) -> Answer {
 impl<R: Wait> Proxy<'_, '_, R> {
     /// What becomes of the datagram, where that is not refused.
     fn handled(&mut self) -> Option<Handled> {
-        let memory = Memory {
-            alloc: self.scarce,
-            heap: self.global,
-        };
         let received = Received {
             bytes: self.packet,
             source: self.source,
@@ -233,7 +228,7 @@ impl<R: Wait> Proxy<'_, '_, R> {
         };
         handle(
             self.rt,
-            memory,
+            self.scarce,
             &mut SharedCalls::new(self.shelf),
             self.setup,
             &Unlimited,
@@ -271,7 +266,6 @@ impl<R: Wait> Repeated for Proxy<'_, '_, R> {
 #[derive(Drop)]
 struct Packets<'r, R> {
     rt: &'r R,
-    global: Global,
     list: &'static [Packet],
 }
 
@@ -306,7 +300,6 @@ fn are_handled<'a, R: Wait>(
     let mut proxy = Proxy {
         rt: packets.rt,
         scarce: heap.scarce,
-        global: packets.global,
         shelf,
         setup,
         port: Counting { sends: 0 },
@@ -356,11 +349,7 @@ fn lists() -> &'static [(&'static [Packet], &'static str)] {
 #[test]
 fn datagrams_are_handled(rt: HostRuntime) {
     for &(list, what) in lists() {
-        let packets = Packets {
-            rt: &rt,
-            global: rt.alloc(),
-            list,
-        };
+        let packets = Packets { rt: &rt, list };
         plays(&rt, &packets, 0, what);
     }
 }

@@ -268,7 +268,6 @@ fn goes(
     what: &str,
 ) {
     let history = History {
-        global: rt.alloc(),
         setup: SETUP,
         request,
         moments,

@@ -9,7 +9,7 @@ use crate::holds::holds;
 use call_table::Shelf;
 use fork_call::{Call, Cause, Datagram, Port, Setup, carry};
 use fork_context::State;
-use proxy_dispatch::{Handled, Memory, Received, SharedCalls, Unlimited, handle};
+use proxy_dispatch::{Handled, Received, SharedCalls, Unlimited, handle};
 use sip_uri::{Hop, Transport};
 use std::alloc::{Allocator, Global};
 use std::process::Abort;
@@ -189,10 +189,6 @@ struct Desk {
 
 impl Taking for Desk {
     fn takes<R: Abort + Wait>(&self, rt: &R, text: &[u8], tally: &mut Tally) -> bool {
-        let memory = Memory {
-            alloc: self.alloc,
-            heap: self.alloc,
-        };
         let received = Received {
             bytes: text,
             source: SOURCE,
@@ -200,7 +196,9 @@ impl Taking for Desk {
         };
         let mut calls = SharedCalls::new(&self.calls);
         let setup = &self.setup;
-        match handle(rt, memory, &mut calls, setup, &Unlimited, received, tally) {
+        match handle(
+            rt, self.alloc, &mut calls, setup, &Unlimited, received, tally,
+        ) {
             Ok(Handled::Opened(number) | Handled::Delivered(number)) => {
                 self.calls
                     .with(rt, number, |call| is_carried(rt, call, tally))

@@ -45,7 +45,7 @@ fn opened_by(
     if !is_openable(&request) {
         return None;
     }
-    match Call::open(alloc, alloc, setup, number, request, SOURCE, 0) {
+    match Call::open(alloc, setup, number, request, SOURCE, 0) {
         Ok(call) => Some(call),
         Err(_) => None,
     }

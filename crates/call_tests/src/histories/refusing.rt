@@ -11,7 +11,7 @@ fn fault_by(alloc: Global, setup: &Setup<Global>, change: Change) -> Option<Requ
     if !is_openable(&request) {
         return None;
     }
-    match Call::open(alloc, alloc, setup, 3, request, SOURCE, 0) {
+    match Call::open(alloc, setup, 3, request, SOURCE, 0) {
         Ok(_) => None,
         Err(fault) => Some(fault),
     }

@@ -11,9 +11,9 @@ invariant_of-result g c =
 pub returns : goal.returns
 returns g c =
     let count : c.count.result ≡ length (table_of c.args.book).rows = c.count.ensures.value ∙ ap (λ (x : Core). length x.table.rows) c.context.ensures.stands in
-    begun_is c.args.opened c.args.book c.args.destinations.items c.in_ok-branches.branches.items c.start-served.result c.first_owed-owed.result.items c.new-last.result.items
+    begun_is c.args.opened c.args.book c.args.destinations.items c.in_ok-branches.branches.items c.start-served.result c.in_ok-owed.owed.items c.new-last.result.items
     (c.in_ok-branches.ensures ∙ ap no_branches count ∙ no_branches_of (table_of c.args.book).rows)
     (c.start-served.ensures ∙ ap (λ (k : Kind). served_start k (reliability_of c.caller.result.transport)) c.kind-2.ensures
     ∙ ap (λ (h : Hop). served_start (kind_of c.args.opened) (reliability_of h.transport)) c.caller.ensures)
-    (c.first_owed-owed.ensures ∙ ap first_owed c.kind.ensures)
+    (c.in_ok-owed.ensures ∙ ap first_owed c.kind.ensures)
     c.new-last.ensures.items

@@ -1,6 +1,6 @@
 use Rattle.call_state.proofs.Common.{◌≡◌, ◌≤◌, ◌∙◌, ℕ, ◌++◌, ap, drop, false, length, map, slice_get, subst, sym, List, Option, filter_map, Core, is_full, Up, Table, core_of, table_of, event_of, up_of, Call, HaveDestinations, PostsSaid, destination_for}
 use Rattle.call_state.proofs.Common.{closing_of, no_branch, owed_by, destination_of_contact, Destination, Branch, Owed}
-use Rattle.call_answers.specs.Queue.{news_of}
+use Rattle.call_answers.specs.Queue.{owed_in}
 use Rattle.call_state.proofs.NewRows.{said_posts, sized_more}
 use Rattle.call_state.proofs.state.CallState.post_response.Goals as goal
 
@@ -53,8 +53,8 @@ returns-clause-ok g c = λ contacts made.
     let up : up_of c.up_at-up.result ≡ is.0.up = c.up_at-up.ensures is.0 (ap (slice_get c.post.new.self.replies) c.in-Ok.ensures.at ∙ is.1.placed) in
     let owed : c.owe_if.new.self.items ≡ c.self.inside.owed.items ++ owed_by is.0.up c.args.response =
     c.owe_if.ensures.items
-    ∙ ap (λ (os : List Owed). os ++ news_of c.owed_by.result) c.reserve.ensures.items
-    ∙ ap (λ (os : List Owed). c.self.inside.owed.items ++ os) (c.owed_by.ensures.answer ∙ ap (λ (u : Up). owed_by u c.args.response) up) in
+    ∙ ap (λ (os : List Owed). os ++ owed_in c.owed_by.result) c.reserve.ensures.items
+    ∙ ap (λ (os : List Owed). c.self.inside.owed.items ++ os) (c.owed_by.ensures ∙ ap (λ (u : Up). owed_by u c.args.response) up) in
     let same : c.args.new_event.destinations.items ≡ map (destination_of_contact call.opened) contacts =
     made ∙ ap (λ (x : Call). map (destination_of_contact x.opened) contacts) (sym c.self.view_is) in
     let P : Call → Type 0 = λ x. PostsSaid x (event_of c.args.new_event.event) contacts c.args.response c.in-Ok.at new in
