@@ -1,0 +1,4 @@
+pub mod LineReading
+pub mod LineView
+pub mod Reading
+pub mod Hosts
