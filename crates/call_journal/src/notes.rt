@@ -121,11 +121,7 @@ fn own_notes<A: Allocator>(alloc: A, notes: &[Note], n: u16) -> Result<Vec<Note,
 }
 
 /// Appends the line of a target of which these are the notes; nothing where there is none.
-fn append_line<A: Allocator>(
-    out: &mut Vec<u8, A>,
-    n: u16,
-    notes: &[Note],
-) -> Result<(), AllocError>
+fn append_line<A: Allocator>(out: &mut Vec<u8, A>, n: u16, notes: &[Note]) -> Result<(), AllocError>
     ensures { OnOk result (out.new.items ≡ out.old.items ++ line_of n notes.now) }
 {
     let [first, more @ ..] = notes else {

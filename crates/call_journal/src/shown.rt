@@ -136,10 +136,7 @@ fn append_place<A: Allocator>(
 }
 
 /// Appends what it asks for.
-fn append_asked<A: Allocator>(
-    out: &mut Vec<u8, A>,
-    shown: &CallShown<'_>,
-) -> Result<(), AllocError>
+fn append_asked<A: Allocator>(out: &mut Vec<u8, A>, shown: &CallShown<'_>) -> Result<(), AllocError>
     ensures { OnOk result (out.new.items ≡ out.old.items ++ asked_text shown.now) }
 {
     append(out, b" ")?;

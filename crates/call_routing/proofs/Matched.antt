@@ -134,7 +134,7 @@ no_request call m e = (
 -- ---- what a response belongs to
 
 pub none_at_all : (call : Call) (m : MessageText) → is_response m.start ≡ true → BelongsToNoBranch call m → BelongsToNone call m
-none_at_all call m e no = to_none call m no (no_request call m e)
+none_at_all call m e apart = to_none call m apart (no_request call m e)
 
 -- its top Via value names no branch of the proxy's own
 pub unnamed : (call : Call) (m : MessageText) (opened : OpenedRequest) (own : Own) (b : BranchName) → is_response m.start ≡ true → opened ≡ call.opened → own ≡ opened.own

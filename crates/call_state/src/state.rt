@@ -605,9 +605,9 @@ impl<A: Allocator + Clone> CallState<A> {
             Err(PostError::Full(_)) => unreachable!(),
         };
         let up = up_at(&self.book, at);
-        self.closing = Closing::ByCancel(reasons);
         self.owed.owe(NewAnswer::CancelOk(cancel, to));
         self.owed.owe_if(owed_by(up, None));
+        self.closing = Closing::ByCancel(reasons);
         Ok(Taken::Posted(at))
     }
 

@@ -22,7 +22,7 @@ answers_append : (call mid new : Call) (a b : List AnswerAt) → AnswersAll call
 answers_append call mid new [] b same rest =
     let P : Call → Type 0 = λ x. AnswersAll x b new in
     subst P same rest
-answers_append call mid new (answer ∷ a) b (next, first, then) rest = (next, first, answers_append next mid new a b then rest)
+answers_append call mid new (answer ∷ a) b (next, first, others) rest = (next, first, answers_append next mid new a b others rest)
 
 said_append : (a b : List AnswerAt) → AreSaid a → AreSaid b → AreSaid (a ++ b)
 said_append [] b first rest = rest

@@ -92,7 +92,8 @@ impl Scene {
         };
         let mut calls = SharedCalls::new(&self.calls);
         let (setup, outbox) = (&self.setup, &mut self.outbox);
-        handle(rt, memory, &mut calls, setup, &Unlimited, received, outbox) == Ok(Handled::Opened(0))
+        handle(rt, memory, &mut calls, setup, &Unlimited, received, outbox)
+            == Ok(Handled::Opened(0))
     }
 
     /// The block of the call 0.

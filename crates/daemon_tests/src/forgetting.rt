@@ -300,7 +300,13 @@ const NO_JOURNAL: &[Moment] = &[
     ),
     (32_020, Turn::Passes(20)),
     (32_020, Turn::Keeps(1, 2)),
-    (32_020, Turn::ToldOf(1, "1 32020 192.0.2.1:5060 OPTIONS bob 408\ntarget 0 408 since - left - sip:bob@192.0.2.4\n")),
+    (
+        32_020,
+        Turn::ToldOf(
+            1,
+            "1 32020 192.0.2.1:5060 OPTIONS bob 408\ntarget 0 408 since - left - sip:bob@192.0.2.4\n",
+        ),
+    ),
     (32_020, Turn::Leaves),
     (32_020, Turn::WritesNothing),
     (32_020, Turn::Counts("forkproxy_calls_journaled_total 0")),

@@ -28,7 +28,13 @@ const GROUPS: &[Moment] = &[
     (500, Turn::Asks(TO_CAROL)),
     (500, Turn::Sends(CALLER, "SIP/2.0 100 ", "one")),
     (500, Turn::Sends(CAROL, "INVITE ", "one")),
-    (500, Turn::Told(0, "0 0 192.0.2.1:5060 INVITE carol calling waiting\nno more\n")),
+    (
+        500,
+        Turn::Told(
+            0,
+            "0 0 192.0.2.1:5060 INVITE carol calling waiting\nno more\n",
+        ),
+    ),
     (
         1_500,
         Turn::Answers(CAROL, "INVITE", "one", "SIP/2.0 180 Ringing"),
@@ -114,8 +120,14 @@ const RINGING: [Moment; 7] = [
     (0, Turn::Sends(CALLER, "SIP/2.0 100 ", "one")),
     (0, Turn::Sends(BOB, "INVITE ", "one")),
     (0, Turn::Sends(CAROL, "INVITE ", "one")),
-    (10, Turn::Answers(BOB, "INVITE", "one", "SIP/2.0 180 Ringing")),
-    (10, Turn::Answers(CAROL, "INVITE", "one", "SIP/2.0 180 Ringing")),
+    (
+        10,
+        Turn::Answers(BOB, "INVITE", "one", "SIP/2.0 180 Ringing"),
+    ),
+    (
+        10,
+        Turn::Answers(CAROL, "INVITE", "one", "SIP/2.0 180 Ringing"),
+    ),
     (10, Turn::Skips),
 ];
 
@@ -141,9 +153,15 @@ const GIVEN_UP: [Moment; 7] = [
     (20, Turn::Asks(REASONED)),
     (20, Turn::Sends(CALLER, "SIP/2.0 200 ", "one")),
     (20, Turn::Sends(BOB, "CANCEL ", "one")),
-    (20, Turn::Has("\r\nReason: SIP;cause=487;text=\"x\"\r\nContent-Length: 0\r\n")),
+    (
+        20,
+        Turn::Has("\r\nReason: SIP;cause=487;text=\"x\"\r\nContent-Length: 0\r\n"),
+    ),
     (20, Turn::Sends(CAROL, "CANCEL ", "one")),
-    (20, Turn::Has("\r\nReason: SIP;cause=487;text=\"x\"\r\nContent-Length: 0\r\n")),
+    (
+        20,
+        Turn::Has("\r\nReason: SIP;cause=487;text=\"x\"\r\nContent-Length: 0\r\n"),
+    ),
     (20, Turn::Lacks("elsewhere")),
 ];
 
@@ -159,10 +177,16 @@ const GIVEN_UP_SILENTLY: [Moment; 6] = [
 
 /// One declines for all: the other one is told with which status.
 const DECLINED: [Moment; 4] = [
-    (20, Turn::Answers(BOB, "INVITE", "one", "SIP/2.0 603 Decline")),
+    (
+        20,
+        Turn::Answers(BOB, "INVITE", "one", "SIP/2.0 603 Decline"),
+    ),
     (20, Turn::Sends(BOB, "ACK ", "one")),
     (20, Turn::Sends(CAROL, "CANCEL ", "one")),
-    (20, Turn::Has("\r\nReason: SIP;cause=603\r\nContent-Length: 0\r\n")),
+    (
+        20,
+        Turn::Has("\r\nReason: SIP;cause=603\r\nContent-Length: 0\r\n"),
+    ),
 ];
 
 /// Whether a call to two telephones that ring goes on so.

@@ -51,7 +51,9 @@ fn rings(agents: &Agents, call: &str) -> Option<Ringing> {
     let bob = agents.gets("INVITE sip:bob@", call)?;
     let robert = agents.gets("INVITE sip:robert@", call)?;
     for request in [bob.as_slice(), robert.as_slice()] {
-        if !agents.answers(request, "SIP/2.0 180 Ringing\r\n") || !agents.hears("SIP/2.0 180", call) {
+        if !agents.answers(request, "SIP/2.0 180 Ringing\r\n")
+            || !agents.hears("SIP/2.0 180", call)
+        {
             return None;
         }
     }
@@ -87,7 +89,12 @@ fn answered<R: Net + Clock>(rt: &R, alloc: Global, agents: &Agents) -> &'static 
     let Some(ringing) = rings(agents, "one") else {
         return "two telephones ring";
     };
-    if !is_told(rt, alloc, "calls", " 127.0.0.1:47471 INVITE bob proceeding proceeding\nno more\n") {
+    if !is_told(
+        rt,
+        alloc,
+        "calls",
+        " 127.0.0.1:47471 INVITE bob proceeding proceeding\nno more\n",
+    ) {
         return "an operator is told of the call that rings";
     }
     if !agents.answers(ringing.bob.as_slice(), "SIP/2.0 200 OK\r\n")
@@ -120,15 +127,27 @@ fn given_up<R: Net + Clock>(rt: &R, alloc: Global, agents: &Agents) -> &'static 
         tag: "",
         lines: "Reason: SIP;cause=487;text=\"x\"\r\n",
     });
-    if !is_cancelled(agents, "CANCEL sip:bob@", "two", ringing.bob.as_slice(), GIVEN)
-        || !is_cancelled(agents, "CANCEL sip:robert@", "two", ringing.robert.as_slice(), GIVEN)
-    {
+    if !is_cancelled(
+        agents,
+        "CANCEL sip:bob@",
+        "two",
+        ringing.bob.as_slice(),
+        GIVEN,
+    ) || !is_cancelled(
+        agents,
+        "CANCEL sip:robert@",
+        "two",
+        ringing.robert.as_slice(),
+        GIVEN,
+    ) {
         return "both telephones are told what the caller said";
     }
     if !agents.hears("SIP/2.0 487", "two") {
         return "the caller gets its 487";
     }
-    if !tells(rt, alloc, CONTROL, "calls", "no more\n") || !tells(rt, alloc, CONTROL, "call 7", "unknown call 7\n") {
+    if !tells(rt, alloc, CONTROL, "calls", "no more\n")
+        || !tells(rt, alloc, CONTROL, "call 7", "unknown call 7\n")
+    {
         return "no call is open, and none has the number 7";
     }
     "nothing"

@@ -308,13 +308,7 @@ impl<A: Allocator + Copy> Service<A> {
     }
 
     /// Appends the block of the call of this number, or nothing for want of memory, and says whether such a call is kept.
-    fn write_left<R: Wait>(
-        &self,
-        rt: &R,
-        number: u64,
-        time: u64,
-        block: &mut Vec<u8, A>,
-    ) -> bool {
+    fn write_left<R: Wait>(&self, rt: &R, number: u64, time: u64, block: &mut Vec<u8, A>) -> bool {
         let notes = &self.calls.notes;
         let written = self.calls.shelf.with(
             rt,

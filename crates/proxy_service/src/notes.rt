@@ -1,6 +1,7 @@
 //! What is noted of the calls that are kept: when each was opened, and, where there is a journal, what its targets did.
 ghost use Rattle.std.specs.Prelude.{◌≡◌, ◌++◌, OnErr, OnOk};
 ghost use Rattle.std.specs.List.{filter_map};
+ghost use Rattle.std.specs.Option.{option_to_list};
 ghost use Rattle.proxy_service.specs.Noting.{noted_at};
 
 use crate::journal::append_block;
@@ -28,6 +29,20 @@ struct CallNotes {
     notes: Vec<Note>,
 }
 
+/// Adds the note of an event so many milliseconds behind the opening of its call, if there is one of it.
+fn add_note<A: Allocator>(
+    notes: &mut Vec<Note>,
+    posted: &Posted<A>,
+    at: u64,
+) -> Result<(), AllocError>
+    ensures { OnOk result (notes.new.items ≡ notes.old.items ++ option_to_list (noted_at at posted.now)) }
+{
+    match Note::of(posted.event(), at) {
+        Some(note) => Ok(notes.push(note)?),
+        None => Ok(()),
+    }
+}
+
 /// Adds the notes of these events so many milliseconds behind the opening of their call.
 ///
 /// # Errors
@@ -41,9 +56,7 @@ fn add_notes<A: Allocator>(
     ensures { OnOk result (notes.new.items ≡ notes.old.items ++ filter_map (noted_at at) events.now) }
 {
     for posted in events {
-        if let Some(note) = Note::of(posted.event(), at) {
-            notes.push(note)?;
-        }
+        add_note(notes, posted, at)?;
     }
     Ok(())
 }

@@ -1,5 +1,6 @@
 //! What an operator is told of the calls that are kept.
 ghost use Rattle.std.specs.Prelude.{◌≡◌, ◌≤◌, IfOk};
+
 use crate::calls::is_open;
 use crate::notes::NoteTables;
 use crate::service::Service;
@@ -168,7 +169,11 @@ impl<A: Allocator + Copy> Service<A> {
     {
         let heap = self.heap;
         let age = self.age(rt, number, now);
-        match self.calls.shelf.with(rt, number, |call| append_if_open(heap, call, age, out)) {
+        match self
+            .calls
+            .shelf
+            .with(rt, number, |call| append_if_open(heap, call, age, out))
+        {
             Some(Ok(true)) => Ok(1),
             Some(Err(AllocError)) => Err(AllocError),
             Some(Ok(false)) | None => Ok(0),
@@ -189,7 +194,11 @@ impl<A: Allocator + Copy> Service<A> {
         out: &mut Vec<u8>,
     ) -> Result<(), AllocError> {
         let shelf = &self.calls.shelf;
-        if let Some(appended) = shelf.with(rt, number, |call| self.append_whole(rt, call, now, out)) {
+        if let Some(appended) = shelf.with(
+            rt,
+            number,
+            |call| self.append_whole(rt, call, now, out),
+        ) {
             return appended;
         }
         out.extend_from_slice(b"unknown call ")?;

@@ -23,9 +23,7 @@ fn mark(target: u16) -> u64 {
 impl TargetSet {
     /// No target.
     pub(crate) fn none() -> TargetSet {
-        TargetSet {
-            marks: [0; WORDS],
-        }
+        TargetSet { marks: [0; WORDS] }
     }
 
     /// The word in which the mark of a target stands.

@@ -1,15 +1,17 @@
 //! Messages that are made of others while memory is refused.
 use crate::answers::{discard, judged};
 use crate::hops::has_hops;
-use crate::made_texts::{ACK, CANCEL, FORWARDED, MARKED, STRIPPED, TRYING, UPWARD_WITH_ANOTHER};
+use crate::made_texts::{
+    ACK, CANCEL, FORWARDED, LONG_MARKED, MARKED, STRIPPED, TRYING, UPWARD_WITH_ANOTHER,
+};
 use crate::plays::{calls, plays};
 use crate::sources::{
-    Alloc, BRANCH, MOVED, OWN, REQUEST, ROUTED, SOURCE, Wanted, is_written_as, read, target,
+    Alloc, BRANCH, LONG, MOVED, OWN, REQUEST, ROUTED, SOURCE, Wanted, is_written_as, read, target,
 };
 use refusing::{Answer, Heap, Play, Repeated, Stateless};
 use sip_build::OwnStatus;
 use sip_message::{ack_of, cancel_of, forward, generated, mark_received, strip_route, upward};
-use sip_text::{Message, Start};
+use sip_text::{Message, StartLine};
 use sip_uri::SipUri;
 use sip_via::{BuildFault, ReceivedFault, ViaFault, add_received};
 use std::mem;
@@ -58,7 +60,7 @@ fn sent_along<'a>(
     }
     let wanted = &case.wanted;
     match request.start() {
-        Start::Request { .. } => match case.making {
+        StartLine::Request { .. } => match case.making {
             Making::Forwarded => judged(
                 heap,
                 wanted,
@@ -78,7 +80,7 @@ fn sent_along<'a>(
                 BuildFault::NoMemory,
             ),
         },
-        Start::Response { .. } => Answer::Wrong,
+        StartLine::Response { .. } => Answer::Wrong,
     }
 }
 
@@ -132,7 +134,8 @@ impl Stateless for Case {
     }
 }
 
-/// The source is put into a request itself, which comes back where that is refused.
+/// The source is put into a request itself, which comes back where that is refused. Its Via line is too long to be made without
+/// memory.
 #[derive(Drop)]
 struct Marking<'a> {
     heap: Heap<'a>,
@@ -145,7 +148,7 @@ fn marked<'a>(heap: Heap<'a>, request: &mut Option<Message<Alloc<'a>>>) -> Answe
     };
     match add_received(heap.scarce, message, SOURCE) {
         Ok(message) => {
-            let answer = Answer::of(is_written_as(heap.ample, &message, MARKED));
+            let answer = Answer::of(is_written_as(heap.ample, &message, LONG_MARKED));
             discard(message);
             answer
         }
@@ -168,7 +171,7 @@ impl Play for InPlace {
     fn play(&self, heap: Heap<'_>) -> bool {
         let mut marking = Marking {
             heap,
-            request: read(heap.ample, REQUEST).ok(),
+            request: read(heap.ample, LONG).ok(),
         };
         let well = heap.insist(&mut marking);
         discard(marking);

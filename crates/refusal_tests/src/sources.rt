@@ -34,6 +34,16 @@ pub const REQUEST: &[u8] = b"OPTIONS sip:bob@example.com SIP/2.0\r\n\
 v: SIP/2.0/UDP 192.0.2.1:5060;branch=z9hG4bKa;rport\r\nMax-Forwards: 70\r\n\
 f: <sip:alice@example.com>;tag=1\r\nt: <sip:bob@example.com>\r\ni: c1\r\nCSeq: 1 OPTIONS\r\nl: 0\r\n\r\n";
 
+/// The request with a Via line of more than 256 bytes.
+pub const LONG: &[u8] = b"OPTIONS sip:bob@example.com SIP/2.0\r\n\
+v: SIP/2.0/UDP 192.0.2.1:5060;branch=z9hG4bKa;x=\
+aaaaaaaaaaaaaaaaaaaaaaaaaaaaaaaaaaaaaaaaaaaaaaaaaaaaaaaaaaaaaaaa\
+aaaaaaaaaaaaaaaaaaaaaaaaaaaaaaaaaaaaaaaaaaaaaaaaaaaaaaaaaaaaaaaa\
+aaaaaaaaaaaaaaaaaaaaaaaaaaaaaaaaaaaaaaaaaaaaaaaaaaaaaaaaaaaaaaaa\
+aaaaaaaaaaaaaaaaaaaaaaaaaaaaaaaaaaaaaaaaaaaaaaaaaaaaaaaaaaaaaaaa\
+;rport\r\nMax-Forwards: 70\r\n\
+f: <sip:alice@example.com>;tag=1\r\nt: <sip:bob@example.com>\r\ni: c1\r\nCSeq: 1 OPTIONS\r\nl: 0\r\n\r\n";
+
 /// The request with a Route of the proxy's own.
 pub const ROUTED: &[u8] = b"OPTIONS sip:bob@example.com SIP/2.0\r\n\
 v: SIP/2.0/UDP 192.0.2.1:5060;branch=z9hG4bKa;rport\r\nRoute: <sip:192.0.2.9;lr>\r\n\

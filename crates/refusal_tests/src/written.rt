@@ -13,7 +13,7 @@ use sip_build::{
     write_own_route, write_upward,
 };
 use sip_route::append_request_key;
-use sip_text::{Message, Start};
+use sip_text::{Message, StartLine};
 use sip_uri::SipUri;
 use sip_via::write_branch;
 
@@ -52,14 +52,14 @@ fn forwards<'a>(
         return false;
     }
     match request.start() {
-        Start::Request { .. } => match what {
+        StartLine::Request { .. } => match what {
             Written::Forwarded => write_forwarded(request, target, OWN, &BRANCH, None, out).is_ok(),
             Written::ForwardedAck => {
                 write_forwarded_ack(request, target, OWN, &BRANCH, response, out).is_ok()
             }
             _ => write_forwarded_cancel(request, target, OWN, &BRANCH, &[], out).is_ok(),
         },
-        Start::Response { .. } => false,
+        StartLine::Response { .. } => false,
     }
 }
 

@@ -346,10 +346,6 @@ fn an_operator_is_told_where_each_branch_stands(rt: HostRuntime) {
         ),
     ];
     for (events, states, branch) in cases {
-        holds(
-            &rt,
-            is_told(rt.alloc(), events, states, branch),
-            branch,
-        );
+        holds(&rt, is_told(rt.alloc(), events, states, branch), branch);
     }
 }

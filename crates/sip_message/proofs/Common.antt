@@ -1,6 +1,6 @@
 -- The names that most proofs of this crate cite, passed on from one place. Declares nothing.
-pub use Rattle.std.proofs.Common.{Bool, IfSome, List, None, Ok, OnOk, Option, Result, Some, [], ap, append_assoc, arith, codes, cond, drop, eqb, false, inl, inr, is_none, length, map, not, option_map, refl, reverse, rules}
-pub use Rattle.std.proofs.Common.{slice_index, subst, sym, take, true, vec_len, ℕ, ◌&&◌, ◌++◌, ◌+◌, ◌-◌, ◌<◌, ◌^◌, ◌∙◌, ◌∷◌, ◌≡◌, ◌≢◌}
+pub use Rattle.std.proofs.Common.{Bool, IfSome, List, None, Ok, Option, Result, Some, [], ap, append_assoc, arith, codes, cond, drop, eqb, false, inl, inr, is_none, length, map, not, option_map, refl, reverse, rules}
+pub use Rattle.std.proofs.Common.{slice_index, subst, sym, take, true, ℕ, ◌&&◌, ◌++◌, ◌-◌, ◌<◌, ◌^◌, ◌∙◌, ◌∷◌, ◌≡◌, ◌≢◌}
 pub use Rattle.std.proofs.lemmas.Bool.{and_from, and_parts, cases_Bool, cond-false, cond-true, cond_both, false≢true}
 pub use Rattle.std.proofs.lemmas.Fmt.{decimal_nonempty, digits_decimal}
 pub use Rattle.std.proofs.lemmas.Grind.{common_steps}
@@ -31,7 +31,6 @@ pub use Rattle.sip_text.specs.Fields.{CSeqText, cseq_in, cseq_of, cseq_with, fit
 pub use Rattle.sip_text.specs.Message.{IsMessage, fits_body, is_header, is_line, is_line_byte, is_start, is_trimmed, is_value}
 pub use Rattle.sip_text.specs.Name.{first_of, first_value, same_name}
 pub use Rattle.sip_text.specs.Reading.{begins_with_space, is_uri}
-pub use Rattle.sip_text.specs.Seen.{view_start, views}
 pub use Rattle.sip_text.specs.Text.{HeaderText, MessageText, Request, Response, StartText}
 pub use Rattle.sip_text.specs.declared.needed.Needed.TheVariants.{CSeq, CallId, From, To, Via}
 pub use Rattle.sip_uri.specs.Host.{IsHost, IsPort}
@@ -41,8 +40,8 @@ pub use Rattle.sip_via.proofs.laws.PlainVia.{is-not}
 pub use Rattle.sip_via.proofs.laws.Replaced.{SameOthers, all-replaced, apart, values-replaced}
 pub use Rattle.sip_via.proofs.laws.Tokens.{all_pass, decimal_high, high_line, high_no_space, is_high, no_space}
 pub use Rattle.sip_via.specs.Address.{IsAddress, address_text, dotted}
-pub use Rattle.sip_via.specs.Edits.{line, replaced, with_headers}
-pub use Rattle.sip_via.specs.Lines.{first_line, has_name, lines_among, lines_as, lines_named}
+pub use Rattle.sip_via.specs.Edits.{line, replaced}
+pub use Rattle.sip_via.specs.Lines.{first_line, has_name, lines_as, lines_named}
 pub use Rattle.sip_via.specs.OwnVia.{own_via}
 pub use Rattle.sip_via.specs.Received.{IsSource, asks_port, filled, gets_received, marked_line, marked_param, marked_parts, marked_value, received_text}
 pub use Rattle.sip_via.specs.TopVia.{first_or_empty, has_second, top_value, values_in, via_values}
@@ -57,6 +56,6 @@ pub use Rattle.sip_build.specs.Exchanged.{exchanged, is_other}
 pub use Rattle.sip_build.specs.Forwarding.{forwarded, hops_lowered, is_request, to_target}
 pub use Rattle.sip_build.specs.Generated.{code_of, generated_of, gets_tag, reason_of, tagged, to_lines, unsupported_lines, with_tag}
 pub use Rattle.sip_build.specs.Requests.{along, to_value}
-pub use Rattle.sip_build.specs.SeenKept.{seen_kept, texts}
+pub use Rattle.sip_build.specs.SeenKept.{seen_kept}
 pub use Rattle.sip_build.specs.Upward.{challenge_line, challenge_name, contact_lines, others_of, upward_headers, upward_of, with_contacts, without_top}
 pub use Rattle.sip_build.specs.declared.responses.OwnStatus.{OwnStatus}

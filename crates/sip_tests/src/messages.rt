@@ -50,14 +50,6 @@ pub const ROUTED: [&[u8]; 9] = [
     b"",
 ];
 
-/// A copy of a text.
-pub fn copy_of(alloc: Global, text: &[u8]) -> Option<Vec<u8>> {
-    match Vec::from_slice(alloc, text) {
-        Ok(copy) => Some(copy),
-        Err(_) => None,
-    }
-}
-
 /// Adds a line and its end; whether there was memory for them.
 fn adds_line(text: &mut Vec<u8>, line: &[u8]) -> bool {
     text.extend_from_slice(line).is_ok() && text.extend_from_slice(b"\r\n").is_ok()

@@ -1,10 +1,9 @@
-//! Header lines that are copied, changed and left out, and what a message says of its start line and its Via values.
+//! Header lines by the place of the first of a name, and what a message says of its start line and its Via values.
 use crate::bytes::is;
 use crate::holds::holds;
-use crate::messages::{copy_of, read, writes};
-use sip_message::{add_copies, add_line_if_any, add_replaced, copy_others, with_headers};
+use crate::messages::read;
 use sip_route::request_uri;
-use sip_text::{Header, Message};
+use sip_text::HeaderLines;
 use sip_uri::Transport;
 use sip_via::{
     BranchName, Own, begins_named, has_second_via, own_via, place_of, split_named, top_and_second,
@@ -18,71 +17,25 @@ const REQUEST: &[u8] =
 const TWICE: &[u8] =
     b"OPTIONS sip:bob@example.com SIP/2.0\r\nv: SIP/2.0/UDP 192.0.2.1, SIP/2.0/UDP 192.0.2.2\r\nf: <sip:alice@example.com>;tag=1\r\nt: <sip:bob@example.com>\r\ni: c1\r\nCSeq: 1 OPTIONS\r\n\r\n";
 
-/// Copies of a message's lines.
-fn copies(alloc: Global, request: &Message<Global>) -> Option<Vec<Header<Global>>> {
-    let mut lines = Vec::new(alloc);
-    match add_copies(&mut lines, &alloc, request.headers()) {
-        Ok(()) => Some(lines),
-        Err(_) => None,
-    }
-}
-
-/// How many lines these are, if some are there.
-fn count_of(lines: Option<Vec<Header<Global>>>) -> Option<usize> {
-    match lines {
-        Some(lines) => Some(lines.len()),
+/// The place of that name among the lines behind the Route line.
+fn place_behind_route(headers: HeaderLines<'_>, name: &[u8]) -> Option<usize> {
+    match split_named(headers, b"route") {
+        Some((_, behind)) => Some(place_of(behind, name)),
         None => None,
     }
 }
 
-/// How many lines there are when those of a message are copied.
-fn copied(alloc: Global, text: &[u8]) -> Option<usize> {
-    match read(alloc, text) {
-        Some(request) => count_of(copies(alloc, &request)),
-        None => None,
-    }
-}
-
-/// Whether one line stands there, of that name and value.
-fn is_one(lines: &[Header<Global>], name: &[u8], value: &[u8]) -> bool {
-    match lines {
-        [line] => line.name() == name && line.value() == value,
-        _ => false,
-    }
-}
-
-/// Whether a line is added as it was given.
-fn adds_a_line(alloc: Global) -> bool {
-    let mut lines = Vec::new(alloc);
-    match copy_of(alloc, b"70") {
-        Some(value) => {
-            add_line_if_any(&mut lines, &alloc, b"Max-Forwards", Some(value)).is_ok()
-                && is_one(&lines, b"Max-Forwards", b"70")
-        }
-        None => false,
-    }
-}
-
-/// The place of that name among the lines without a Route line.
-fn place_without_route(alloc: Global, headers: &[Header<Global>], name: &[u8]) -> Option<usize> {
-    let mut lines = Vec::new(alloc);
-    match add_replaced(&mut lines, &alloc, headers, b"route", None) {
-        Ok(()) => Some(place_of(&lines, name)),
-        Err(_) => None,
-    }
-}
-
-/// The place of that name among the lines of the request, the Route line of which is left out or not.
-fn place_in(alloc: Global, name: &[u8], route: bool) -> Option<usize> {
+/// The place of that name among the lines of the request, or those behind its Route line.
+fn place_in(alloc: Global, name: &[u8], whole: bool) -> Option<usize> {
     match read(alloc, REQUEST) {
-        Some(request) if route => Some(place_of(request.headers(), name)),
-        Some(request) => place_without_route(alloc, request.headers(), name),
+        Some(request) if whole => Some(place_of(request.headers(), name)),
+        Some(request) => place_behind_route(request.headers(), name),
         None => None,
     }
 }
 
 /// Whether there are lines, and they begin with that name; nothing where there are none.
-fn any_begin(lines: &[Header<Global>], name: &[u8]) -> Option<bool> {
+fn any_begin(lines: HeaderLines<'_>, name: &[u8]) -> Option<bool> {
     if lines.is_empty() {
         None
     } else {
@@ -106,43 +59,6 @@ fn lines_behind(alloc: Global, name: &[u8]) -> Option<usize> {
             None => None,
         },
         None => None,
-    }
-}
-
-/// Whether a message with its own lines is written as this text.
-fn is_same_with_its_lines(alloc: Global, request: &Message<Global>, text: &[u8]) -> bool {
-    request.is_message();
-    let mut lines = Vec::new(alloc);
-    if add_copies(&mut lines, &alloc, request.headers()).is_err() {
-        return false;
-    }
-    match with_headers(alloc, request, lines) {
-        Ok(same) => writes(alloc, &same, text),
-        Err(_) => false,
-    }
-}
-
-/// Whether the request with its own lines is the same message.
-fn is_same(alloc: Global) -> bool {
-    match read(alloc, REQUEST) {
-        Some(request) => is_same_with_its_lines(alloc, &request, REQUEST),
-        None => false,
-    }
-}
-
-/// Whether the values behind a comma are copied so.
-fn copies_others(alloc: Global, others: &[u8], copy: &[u8]) -> bool {
-    match copy_others(alloc, Some(others)) {
-        Ok(text) => is_there(text, copy),
-        Err(_) => false,
-    }
-}
-
-/// Whether a text is there, and it is this one.
-fn is_there(text: Option<Vec<u8>>, wanted: &[u8]) -> bool {
-    match text {
-        Some(text) => is(&text, wanted),
-        None => false,
     }
 }
 
@@ -184,14 +100,8 @@ fn is_request_uri(alloc: Global, uri: &[u8]) -> bool {
 }
 
 #[test]
-fn header_lines_are_changed(rt: HostRuntime) {
+fn header_lines_are_found(rt: HostRuntime) {
     let alloc = rt.alloc();
-    holds(
-        &rt,
-        copied(alloc, REQUEST) == Some(7),
-        "each line is copied",
-    );
-    holds(&rt, adds_a_line(alloc), "a line is added");
     holds(
         &rt,
         place_in(alloc, b"from", true) == Some(2),
@@ -199,8 +109,8 @@ fn header_lines_are_changed(rt: HostRuntime) {
     );
     holds(
         &rt,
-        place_in(alloc, b"from", false) == Some(1),
-        "the Route line is left out",
+        place_in(alloc, b"from", false) == Some(0),
+        "it stands right behind the Route line",
     );
     holds(&rt, begins(alloc, b"via") == Some(true), "Via stands first");
     holds(
@@ -212,12 +122,6 @@ fn header_lines_are_changed(rt: HostRuntime) {
         &rt,
         lines_behind(alloc, b"from") == Some(4),
         "four lines stand behind From",
-    );
-    holds(&rt, is_same(alloc), "the same lines make the same message");
-    holds(
-        &rt,
-        copies_others(alloc, b" <sip:b> ", b"<sip:b>"),
-        "values are copied without the space round them",
     );
 }
 

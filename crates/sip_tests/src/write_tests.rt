@@ -7,7 +7,7 @@ use crate::messages::{OWN, REQUEST, ROUTED, is_written_so, may_pass, message_of}
 use crate::rows::holds_in_row;
 use sip_build::{write_forwarded, write_forwarded_ack, write_forwarded_cancel};
 use sip_message::forward;
-use sip_text::{Message, Start};
+use sip_text::{Message, StartLine};
 use sip_uri::SipUri;
 use sip_via::BranchName;
 use std::alloc::Global;
@@ -26,7 +26,7 @@ fn goes_so(alloc: Global, request: &Message<Global>, target: &SipUri<Global>) ->
     if !may_pass(request) {
         return false;
     }
-    let Start::Request { .. } = request.start() else {
+    let StartLine::Request { .. } = request.start() else {
         return false;
     };
     let mut out = Vec::new(alloc);
@@ -68,7 +68,7 @@ fn are_written_along_to(
     target: &SipUri<Global>,
     response: &Message<Global>,
 ) -> bool {
-    let Start::Request { .. } = request.start() else {
+    let StartLine::Request { .. } = request.start() else {
         return false;
     };
     let mut out = Vec::new(alloc);

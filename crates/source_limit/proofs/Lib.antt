@@ -2,3 +2,4 @@ pub mod laws
 mod Sweeping
 mod Rates
 mod Running
+mod Looking

@@ -6,7 +6,7 @@ use Rattle.source_limit.specs.Limits.{Limits}
 use Rattle.source_limit.specs.Runs.{AreLooks, Look, Looks, NoRunExceedsTheRate, let_in, spent}
 
 -- so many were let in since the first moment, at most as many as is spent now and has come back
-abbrev HasSpent : (l : Limits) (most first at address let : ℕ) → Type 0
+abbrev HasSpent : (l : Limits) (most first at address n : ℕ) → Type 0
 HasSpent l most first at address n = (moment : ℕ) → at ≤ moment → 1000 * n ≤ spent l address moment + most * (moment - first)
 
 abbrev Keeps : (l new : Limits) (now address : ℕ) → Type 0
@@ -24,67 +24,63 @@ whole most first now moment a b =
     let parts : (moment - now) + (now - first) ≡ moment - first = omega arith in
     omega (arith, ap (λ (k : ℕ). most * k) parts)
 
+module _ (most first last address : ℕ) (l new : Limits) (at n : ℕ) (look : Look) (rest : ℕ)
+    (is : l.most ≡ most) (after : first ≤ at) (rises : at ≤ look.now) (ends : look.now ≤ last) (looked : Looks l look.now look.address look.counted new)
+    (has : HasSpent l most first at address n) (few : 1000 * n ≤ 1000 * most + most * (last - first))
+    (go : (k : ℕ) → HasSpent new most first look.now address k → 1000 * k ≤ 1000 * most + most * (last - first) → 1000 * (k + rest) ≤ 1000 * most + most * (last - first)) where
+  start : first ≤ look.now
+  start = omega arith
+
+  stays : Keeps l new look.now address → 1000 * (n + rest) ≤ 1000 * most + most * (last - first)
+  stays keeps = go n (kept_spent l new most first at look.now address n rises has keeps) few
+
+  left : look.counted ≡ true → look.address ≡ address → spent l address look.now + 1000 ≤ most * 1000
+  left counts own =
+      let P : ℕ → Type 0 = λ a. spent l a look.now + 1000 ≤ l.most * 1000 in
+      let Q : ℕ → Type 0 = λ k. spent l address look.now + 1000 ≤ k * 1000 in
+      subst Q is (subst P own (looked.left counts))
+
+  spends : look.counted ≡ true → look.address ≡ address → HasSpent new most first look.now address (1 + n)
+  spends counts own moment later =
+      let P : ℕ → Type 0 = λ a. spent l a look.now + 1000 ≤ spent new a moment + l.most * (moment - look.now) in
+      let Q : ℕ → Type 0 = λ k. spent l address look.now + 1000 ≤ spent new address moment + k * (moment - look.now) in
+      let paid : spent l address look.now + 1000 ≤ spent new address moment + most * (moment - look.now) = subst Q is (subst P own (looked.spends counts moment later)) in
+      let back : most * (moment - look.now) + most * (look.now - first) ≡ most * (moment - first) = whole most first look.now moment start later in
+      let known : 1000 * n ≤ spent l address look.now + most * (look.now - first) = has look.now rises in
+      omega arith
+
+  enough : look.counted ≡ true → look.address ≡ address → 1000 * (1 + n) ≤ 1000 * most + most * (last - first)
+  enough counts own =
+      let shorter : look.now - first ≤ last - first = omega arith in
+      let back : most * (look.now - first) ≤ most * (last - first) = mul-le-mul_left most shorter in
+      let known : 1000 * n ≤ spent l address look.now + most * (look.now - first) = has look.now rises in
+      let least : spent l address look.now + 1000 ≤ most * 1000 = left counts own in
+      omega arith
+
+  one_more : (c e : Bool) → look.counted ≡ c → (look.address == address) ≡ e
+      → 1000 * (n + cond {A = ℕ} (c && e) (1 + rest) rest) ≤ 1000 * most + most * (last - first)
+  one_more true true counts own =
+      let same : look.address ≡ address = eqb-true look.address address own in
+      let one : 1000 * ((1 + n) + rest) ≤ 1000 * most + most * (last - first) = go (1 + n) (spends counts same) (enough counts same) in
+      omega arith
+  one_more true false counts own = stays (λ moment later. looked.others address moment (λ same. eqb-false look.address address own (sym same)) later)
+  one_more false true counts own =
+      let P : ℕ → Type 0 = λ a. (moment : ℕ) → look.now ≤ moment → spent new a moment ≡ spent l a moment in
+      stays (subst P (eqb-true look.address address own) (looked.same counts))
+  one_more false false counts own = stays (λ moment later. looked.others address moment (λ same. eqb-false look.address address own (sym same)) later)
+
 bounded : (most first last address : ℕ) (l : Limits) (at n : ℕ) (looks : List Look) → l.most ≡ most → first ≤ at → AreLooks l at looks
     → AllByRecursion (λ (look : Look). look.now ≤ last) looks
     → HasSpent l most first at address n → 1000 * n ≤ 1000 * most + most * (last - first)
     → 1000 * (n + let_in address looks) ≤ 1000 * most + most * (last - first)
 bounded most first last address l at n [] is after are all has few = omega (arith, few)
 bounded most first last address l at n (look ∷ looks) is after (rises, new, looked, rest) all has few =
-    by look.counted (look.address == address) refl refl
-  where
-    start : first ≤ look.now
-    start = omega arith
-
-    goes_on : (k : ℕ) → HasSpent new most first look.now address k → 1000 * k ≤ 1000 * most + most * (last - first)
-        → 1000 * (k + let_in address looks) ≤ 1000 * most + most * (last - first)
-    goes_on k spends enough = bounded most first last address new look.now k looks (looked.most ∙ is) start rest all.1 spends enough
-
-    stays : Keeps l new look.now address → 1000 * (n + let_in address looks) ≤ 1000 * most + most * (last - first)
-    stays keeps = goes_on n (kept_spent l new most first at look.now address n rises has keeps) few
-
-    more : look.counted ≡ true → look.address ≡ address → 1000 * ((1 + n) + let_in address looks) ≤ 1000 * most + most * (last - first)
-    more counts own = goes_on (1 + n) spends enough
-      where
-        S : Limits → ℕ → ℕ
-        S x moment = spent x address moment
-
-        left : S l look.now + 1000 ≤ most * 1000
-        left =
-            let P : ℕ → Type 0 = λ a. spent l a look.now + 1000 ≤ l.most * 1000 in
-            let Q : ℕ → Type 0 = λ k. S l look.now + 1000 ≤ k * 1000 in
-            subst Q is (subst P own (looked.left counts))
-
-        before : 1000 * n ≤ S l look.now + most * (look.now - first)
-        before = has look.now rises
-
-        spends : HasSpent new most first look.now address (1 + n)
-        spends moment later =
-            let P : ℕ → Type 0 = λ a. spent l a look.now + 1000 ≤ spent new a moment + l.most * (moment - look.now) in
-            let Q : ℕ → Type 0 = λ k. S l look.now + 1000 ≤ S new moment + k * (moment - look.now) in
-            let paid : S l look.now + 1000 ≤ S new moment + most * (moment - look.now) = subst Q is (subst P own (looked.spends counts moment later)) in
-            let back : most * (moment - look.now) + most * (look.now - first) ≡ most * (moment - first) = whole most first look.now moment start later in
-            let known : 1000 * n ≤ S l look.now + most * (look.now - first) = before in
-            omega arith
-
-        enough : 1000 * (1 + n) ≤ 1000 * most + most * (last - first)
-        enough =
-            let shorter : look.now - first ≤ last - first = let h : look.now ≤ last = all.0 in omega arith in
-            let back : most * (look.now - first) ≤ most * (last - first) = mul-le-mul_left most shorter in
-            let known : 1000 * n ≤ S l look.now + most * (look.now - first) = before in
-            let least : S l look.now + 1000 ≤ most * 1000 = left in
-            omega arith
-
-    by : (c e : Bool) → look.counted ≡ c → (look.address == address) ≡ e
-        → 1000 * (n + cond {A = ℕ} (c && e) (1 + let_in address looks) (let_in address looks)) ≤ 1000 * most + most * (last - first)
-    by true true counts own =
-        let one : 1000 * ((1 + n) + let_in address looks) ≤ 1000 * most + most * (last - first) = more counts (eqb-true look.address address own) in
-        omega arith
-    by true false counts own = stays (λ moment later. looked.others address moment (λ same. eqb-false look.address address own (sym same)) later)
-    by false true counts own =
-        let P : ℕ → Type 0 = λ a. (moment : ℕ) → look.now ≤ moment → spent new a moment ≡ spent l a moment in
-        stays (subst P (eqb-true look.address address own) (looked.same counts))
-    by false false counts own = stays (λ moment later. looked.others address moment (λ same. eqb-false look.address address own (sym same)) later)
+    one_more most first last address l new at n look (let_in address looks) is after rises all.0 looked has few
+    (λ k spends enough. bounded most first last address new look.now k looks (looked.most ∙ is) (omega arith) rest all.1 spends enough)
+    look.counted (look.address == address) refl refl
 
 pub no_run_exceeds : NoRunExceedsTheRate
 no_run_exceeds l first last address looks are all =
-    bounded l.most first last address l first 0 looks refl (omega arith) are all (λ moment later. omega arith) (omega arith)
+    let all_in : 1000 * (0 + let_in address looks) ≤ 1000 * l.most + l.most * (last - first) =
+    bounded l.most first last address l first 0 looks refl (omega arith) are all (λ moment later. omega arith) (omega arith) in
+    omega arith

@@ -1,8 +1,9 @@
 //! The addresses that are kept, as a map under their numbers.
-ghost use Rattle.std.specs.Prelude.{◌≡◌, ◌≢◌, ◌+◌, ◌≤◌, ℕ, length, is_some, IfOk, Some, OnErr, OnOk, if◌then◌else◌};
+ghost use Rattle.std.specs.Prelude.{◌≡◌, ◌≢◌, ◌+◌, ◌≤◌, ℕ, false, length, true, is_some, IfOk, Some, OnErr, OnOk, if◌then◌else◌};
 ghost use Rattle.std.specs.BTreeMap.{insert_entry};
 ghost use Rattle.std.specs.Ordering.{nat_cmp};
-ghost use Rattle.source_limit.specs.Limits.{bucket_of, charged, is_admitted, kept_at, most_addresses, spent_by, still_spent};
+ghost use Rattle.source_limit.specs.Bucket.{has_left, spend};
+ghost use Rattle.source_limit.specs.Limits.{bucket_of, charged, is_admitted, is_beyond, kept_at, most_addresses, spent_by, still_spent};
 
 use crate::bucket::Bucket;
 use std::alloc::{AllocError, Allocator};
@@ -64,6 +65,8 @@ pub(crate) fn charge<A: Allocator + Clone>(
     ensures answer { IfOk result (λ admitted. admitted ≡ is_admitted most now buckets.old.entries address) }
     ensures ok { OnOk result (buckets.new.entries ≡ charged most now buckets.old.entries address) }
     ensures err { OnErr result (buckets.new.entries ≡ buckets.old.entries) }
+    ensures own { OnOk result (is_beyond buckets.old.entries address ≡ false → has_left most now (bucket_of buckets.old.entries address) ≡ true
+        → bucket_of buckets.new.entries address ≡ spend most now (bucket_of buckets.old.entries address)) }
     ensures few { length buckets.new.entries ≤ most_addresses }
     ensures others { (other : ℕ) → other ≢ address → kept_at buckets.new.entries other ≡ kept_at buckets.old.entries other }
 {

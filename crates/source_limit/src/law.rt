@@ -15,7 +15,6 @@ pub fn no_address_exceeds_its_rate()
 /// The same of any run of [`SourceLimits::admits`](crate::SourceLimits::admits) in which the time does not fall, with the datagrams
 /// of other addresses in between: of those of one address that count, at most `most` are admitted and `most` thousandths of one more
 /// for each millisecond. Those do not count that are admitted without being kept, as there are 65,536 addresses.
-#[tactic(auto, using(crate::proofs::Running::no_run_exceeds))]
 pub fn no_run_exceeds_its_rate()
     ensures { NoRunExceedsTheRate }
 {}

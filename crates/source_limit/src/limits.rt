@@ -1,6 +1,7 @@
 //! The limit of each source address.
-ghost use Rattle.std.specs.Prelude.{◌≡◌, ◌≢◌, ◌≤◌, ℕ, [], length, IfOk, OnErr, OnOk};
+ghost use Rattle.std.specs.Prelude.{◌≡◌, ◌≢◌, ◌≤◌, ℕ, [], false, length, IfOk, OnErr, OnOk};
 ghost use Rattle.source_limit.specs.Limits.{address_of, charged_at, is_admitted, most_addresses, spent_by, swept_at};
+ghost use Rattle.source_limit.specs.Runs.{Looks, is_counted};
 
 use crate::bucket::Bucket;
 use crate::kept::{charge, forget_unspent};
@@ -77,6 +78,8 @@ impl<A: Allocator + Clone> SourceLimits<A> {
         ensures answer { IfOk result (λ admitted. admitted ≡ is_admitted (swept_at now self.old).most now (swept_at now self.old).buckets (address_of source)) }
         ensures ok { OnOk result (self.new ≡ charged_at now (swept_at now self.old) (address_of source)) }
         ensures err { OnErr result (self.new ≡ swept_at now self.old) }
+        ensures looks { IfOk result (λ admitted. Looks self.old now (address_of source) (is_counted self.old now (address_of source) admitted) self.new) }
+        ensures refused { OnErr result (Looks self.old now (address_of source) false self.new) }
         ensures others { (other moment : ℕ) → other ≢ address_of source → now ≤ moment
             → spent_by self.new.most self.new.buckets other moment ≡ spent_by self.old.most self.old.buckets other moment }
     {

@@ -1,6 +1,6 @@
 -- A response of the proxy's own is a message.
 use Rattle.sip_message.proofs.Common.{◌≡◌, ℕ, true, List, [], ◌∷◌, ◌++◌, map, take, Some, refl, ap, ◌∙◌, arith, codes, list_all, and_parts, and_from, cond_both, md5, Via, From, To, CallId, CSeq, length_name, said_by, value_of, IsMessage, fits_body, is_header}
-use Rattle.sip_message.proofs.Common.{is_line, is_line_byte, is_start, first_of, HeaderText, MessageText, StartText, Response, OwnStatus, code_of, generated_of, gets_tag, reason_of, tagged, to_lines, unsupported_lines, with_tag, line, first_line, lines_named}
+use Rattle.sip_message.proofs.Common.{is_line, is_line_byte, is_start, first_of, HeaderText, MessageText, Response, OwnStatus, code_of, generated_of, gets_tag, reason_of, tagged, to_lines, unsupported_lines, with_tag, line, first_line, lines_named}
 use Rattle.sip_message.proofs.Common.{field_lines, all_pass, high_line, high_no_space, is_high, no_space, common_steps}
 use Rattle.sip_text.specs.Fields.{cseq_fits}
 use Rattle.sip_text.specs.Name.{full_name, values_of}

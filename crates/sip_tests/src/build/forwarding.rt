@@ -7,7 +7,7 @@ use crate::messages::{
 use crate::rows::holds_in_row;
 use sip_message::{forward, mark_received};
 use sip_route::{is_loop, loop_key};
-use sip_text::{Message, Start};
+use sip_text::{Message, StartLine};
 use sip_uri::SipUri;
 use sip_via::{BranchName, Via, read_branch, top_via};
 use std::alloc::Global;
@@ -36,8 +36,8 @@ pub fn forwarded(
         return None;
     }
     match message.start() {
-        Start::Request { .. } => if_built(forward(alloc, message, target, OWN, branch)),
-        Start::Response { .. } => None,
+        StartLine::Request { .. } => if_built(forward(alloc, message, target, OWN, branch)),
+        StartLine::Response { .. } => None,
     }
 }
 

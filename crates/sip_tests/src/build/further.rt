@@ -3,17 +3,17 @@
 ghost use Rattle.std.specs.Prelude.{◌≡◌, true};
 ghost use Rattle.std.specs.List.{list_all};
 ghost use Rattle.sip_text.specs.Message.{is_header};
-ghost use Rattle.sip_build.specs.Further.{view_lines};
+ghost use Rattle.sip_text.specs.Seen.{view_lines};
 
 use crate::build::forwarding::VIA_LINE;
 use crate::bytes::is;
 use crate::holds::holds;
 use crate::messages::{OWN, may_pass, message_of, text_of};
 use sip_build::{
-    FurtherLine, OwnStatus, first_timestamp, reason_lines, stripping_keeps_answers,
-    stripping_keeps_timestamps, write_forwarded, write_forwarded_cancel, write_generated,
+    OwnStatus, first_timestamp, reason_lines, stripping_keeps_answers, stripping_keeps_timestamps,
+    write_forwarded, write_forwarded_cancel, write_generated,
 };
-use sip_text::{Message, Start};
+use sip_text::{HeaderLine, Message, StartLine};
 use sip_uri::SipUri;
 use sip_via::BranchName;
 use std::alloc::Global;
@@ -56,7 +56,7 @@ fn recorded(alloc: Global, request: &Message<Global>, target: &SipUri<Global>) -
     if !may_pass(request) {
         return None;
     }
-    let Start::Request { .. } = request.start() else {
+    let StartLine::Request { .. } = request.start() else {
         return None;
     };
     let mut out = Vec::new(alloc);
@@ -123,7 +123,7 @@ fn answered(
     alloc: Global,
     request: &Message<Global>,
     status: OwnStatus,
-    further: &[FurtherLine<'_>],
+    further: &[HeaderLine<'_>],
 ) -> Option<Vec<u8>>
     requires { list_all is_header (view_lines further.now) ≡ true }
 {
@@ -197,7 +197,7 @@ fn a_100_has_the_first_timestamp(rt: HostRuntime) {
 fn is_answered_as(
     alloc: Global,
     status: OwnStatus,
-    further: &[FurtherLine<'_>],
+    further: &[HeaderLine<'_>],
     start: &'static [u8],
     lines: &'static [u8],
 ) -> bool
@@ -226,7 +226,7 @@ fn is_answered_as(
 #[test]
 fn answers_have_further_lines(rt: HostRuntime) {
     let alloc = rt.alloc();
-    let retry = FurtherLine {
+    let retry = HeaderLine {
         name: b"Retry-After",
         value: b"10",
     };
@@ -241,11 +241,11 @@ fn answers_have_further_lines(rt: HostRuntime) {
         ),
         "a 503 with a Retry-After",
     );
-    let first = FurtherLine {
+    let first = HeaderLine {
         name: b"WWW-Authenticate",
         value: b"Digest realm=\"a\", nonce=\"1\", algorithm=SHA-256",
     };
-    let second = FurtherLine {
+    let second = HeaderLine {
         name: b"WWW-Authenticate",
         value: b"Digest realm=\"a\", nonce=\"1\", algorithm=MD5",
     };
@@ -269,11 +269,11 @@ fn cancelled(
     alloc: Global,
     request: &Message<Global>,
     target: &SipUri<Global>,
-    reasons: &[FurtherLine<'_>],
+    reasons: &[HeaderLine<'_>],
 ) -> Option<Vec<u8>>
     requires { list_all is_header (view_lines reasons.now) ≡ true }
 {
-    let Start::Request { .. } = request.start() else {
+    let StartLine::Request { .. } = request.start() else {
         return None;
     };
     let mut out = Vec::new(alloc);
@@ -284,7 +284,7 @@ fn cancelled(
 }
 
 /// Whether that CANCEL ends with these lines, behind its CSeq.
-fn is_cancelled_as(alloc: Global, reasons: &[FurtherLine<'_>], lines: &'static [u8]) -> bool
+fn is_cancelled_as(alloc: Global, reasons: &[HeaderLine<'_>], lines: &'static [u8]) -> bool
     requires { list_all is_header (view_lines reasons.now) ≡ true }
 {
     let expected: [&[u8]; 9] = [
@@ -332,7 +332,7 @@ fn a_cancel_says_why(rt: HostRuntime) {
         is_cancelled_as(alloc, &[], b"Content-Length: 0"),
         "a CANCEL without a reason",
     );
-    let success = FurtherLine {
+    let success = HeaderLine {
         name: b"Reason",
         value: b"SIP;cause=200;text=\"Call completed elsewhere\"",
     };
@@ -345,7 +345,7 @@ fn a_cancel_says_why(rt: HostRuntime) {
         ),
         "after a 2xx of another branch",
     );
-    let failure = FurtherLine {
+    let failure = HeaderLine {
         name: b"Reason",
         value: b"SIP;cause=603",
     };

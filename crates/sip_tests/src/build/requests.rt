@@ -4,7 +4,7 @@ use crate::build::forwarding::{VIA_LINE, invite_sent};
 use crate::holds::holds;
 use crate::messages::{REQUEST, is_read_back, is_written_as, is_written_as_read, message_of};
 use sip_message::{ack_is_message, ack_of, cancel_is_message, cancel_of};
-use sip_text::{Message, Start};
+use sip_text::{Message, StartLine};
 use std::alloc::Global;
 
 /// An INVITE as it was sent on.
@@ -24,8 +24,8 @@ pub const SENT: [&[u8]; 10] = [
 /// The CANCEL of a request.
 pub fn cancelled(alloc: Global, sent: &Message<Global>) -> Option<Message<Global>> {
     match sent.start() {
-        Start::Request { .. } => if_built(cancel_of(alloc, sent)),
-        Start::Response { .. } => None,
+        StartLine::Request { .. } => if_built(cancel_of(alloc, sent)),
+        StartLine::Response { .. } => None,
     }
 }
 
@@ -36,8 +36,8 @@ pub fn acknowledged(
     response: &Message<Global>,
 ) -> Option<Message<Global>> {
     match sent.start() {
-        Start::Request { .. } => if_built(ack_of(alloc, sent, response)),
-        Start::Response { .. } => None,
+        StartLine::Request { .. } => if_built(ack_of(alloc, sent, response)),
+        StartLine::Response { .. } => None,
     }
 }
 

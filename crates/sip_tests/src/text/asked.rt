@@ -1,7 +1,7 @@
 //! A message written part by part, questions to it, and tags.
 use crate::bytes::{has, holds_of, is};
 use crate::holds::holds;
-use crate::messages::{REQUEST, message_of, spells};
+use crate::messages::{REQUEST, message_of};
 use sip_text::{
     Message, Method, append_pieces, append_request_line, append_status_line,
     header_values_are_values, request_line_len, status_line_len, trimmed_part_is_a_value,
@@ -90,9 +90,9 @@ fn names_its_headers(rt: HostRuntime) {
 fn via_is_named(message: &Option<Message<Global>>, name: &[u8]) -> Option<bool> {
     match message {
         None => None,
-        Some(message) => match message.headers() {
-            [] => None,
-            [first, ..] => Some(first.is_named(name)),
+        Some(message) => match message.headers().get(0) {
+            None => None,
+            Some(first) => Some(first.is_named(name)),
         },
     }
 }
@@ -135,31 +135,6 @@ fn tells_methods_apart(rt: HostRuntime) {
         Method::named(b"cancel") == Method::Other,
         "a name in lower case",
     );
-}
-
-/// The message of a message's parts.
-fn made_of_parts(message: Message<Global>) -> Message<Global> {
-    let (start, headers, body) = message.into_parts();
-    Message::from_parts(start, headers, body)
-}
-
-/// Whether a message is written as these lines once it is made of its parts.
-fn is_kept(alloc: Global, lines: &[&[u8]]) -> bool {
-    match message_of(alloc, lines) {
-        Some(message) => {
-            let made = made_of_parts(message);
-            spells(alloc, &made, lines)
-        }
-        None => false,
-    }
-}
-
-#[test]
-fn copies_and_takes_apart(rt: HostRuntime) {
-    let request = is_kept(rt.alloc(), &REQUEST);
-    holds(&rt, request, "a request");
-    let response = is_kept(rt.alloc(), &RESPONSE);
-    holds(&rt, response, "a response");
 }
 
 /// From lines, and the tag of each.

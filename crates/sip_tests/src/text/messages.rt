@@ -3,7 +3,7 @@ use crate::bytes::{has, holds_of, is};
 use crate::holds::holds;
 use crate::messages::{is_written_so, read, spells, text_of, text_with, written};
 use crate::text::samples::{LINES, busy, lines_with, message_changed};
-use sip_text::{Message, Needed, ReadFault, Start};
+use sip_text::{Message, Needed, ReadFault, StartLine};
 use std::alloc::Global;
 use std::process::Abort;
 
@@ -18,15 +18,15 @@ fn value_at<'a>(message: &'a Message<Global>, name: &[u8], place: usize) -> Opti
 
 fn has_method(message: &Message<Global>, wanted: &[u8]) -> bool {
     match message.start() {
-        Start::Request { method, .. } => is(method, wanted),
-        Start::Response { .. } => false,
+        StartLine::Request { method, .. } => is(method, wanted),
+        StartLine::Response { .. } => false,
     }
 }
 
 fn has_uri(message: &Message<Global>, wanted: &[u8]) -> bool {
     match message.start() {
-        Start::Request { uri, .. } => is(uri, wanted),
-        Start::Response { .. } => false,
+        StartLine::Request { uri, .. } => is(uri, wanted),
+        StartLine::Response { .. } => false,
     }
 }
 

@@ -1,73 +1,25 @@
-//! A message that is made of parts.
+//! The header lines of a message, as they are walked, looked up and cut.
 
-ghost use Rattle.std.specs.Prelude.{◌≡◌, IfOk};
-ghost use Rattle.sip_text.specs.Seen.{view, view_start, views};
-
-use crate::bytes::{has, is};
+use crate::bytes::has;
 use crate::holds::holds;
-use crate::messages::{read, writes};
-use crate::text::samples::{changed, message_changed};
+use crate::text::samples::message_changed;
 use sip_text::{
-    Header, Message, Start, Values, faults_are_of_the_text, round_trip, spelling_is_text,
+    HeaderLine, HeaderLines, Message, Values, faults_are_of_the_text, round_trip, spelling_is_text,
     text_is_message,
 };
-use std::alloc::{AllocError, Global};
+use std::alloc::Global;
 use std::process::Abort;
 
-/// A copy of a start line.
-fn copied_start(alloc: Global, start: &Start<Global>) -> Result<Start<Global>, AllocError>
-    ensures { IfOk result (λ s. view_start s ≡ view_start start.now) }
-{
-    match start {
-        Start::Request { method, uri } => {
-            let method = Vec::from_slice(alloc, method)?;
-            let uri = Vec::from_slice(alloc, uri)?;
-            Ok(Start::Request { method, uri })
-        }
-        Start::Response { status, reason } => {
-            let reason = Vec::from_slice(alloc, reason)?;
-            Ok(Start::Response {
-                status: *status,
-                reason,
-            })
-        }
-    }
-}
-
-/// A copy of a header.
-fn copied(alloc: Global, header: &Header<Global>) -> Result<Header<Global>, AllocError>
-    ensures { IfOk result (λ h. view h ≡ view header.now) }
-{
-    Header::new(alloc, header.name(), header.value())
-}
-
-/// A copy of header lines.
-fn copied_headers(
-    alloc: Global,
-    headers: &[Header<Global>],
-) -> Result<Vec<Header<Global>>, AllocError>
-    ensures { IfOk result (λ v. views v.items ≡ views headers.now) }
-{
-    let mut done = Vec::new(alloc);
-    for header in headers {
-        done.push(copied(alloc, header)?)?;
-    }
-    Ok(done)
-}
-
-/// The same message, made of copies of its parts.
-fn made_again(alloc: Global, message: &Message<Global>) -> Result<Message<Global>, AllocError>
-    ensures { IfOk result (λ m. m ≡ message.now) }
-{
-    message.is_message();
-    let start = copied_start(alloc, message.start())?;
-    let headers = copied_headers(alloc, message.headers())?;
-    let body = Vec::from_slice(alloc, message.body())?;
-    Ok(Message::from_parts(start, headers, body))
+/// The laws, called once.
+fn laws() {
+    text_is_message();
+    spelling_is_text();
+    round_trip();
+    faults_are_of_the_text();
 }
 
 /// Ends the test where these are not the lengths of header lines with one length of 4.
-fn are_the_lengths(rt: &impl Abort, headers: &[Header<Global>]) {
+fn are_the_lengths(rt: &impl Abort, headers: HeaderLines<'_>) {
     let mut lengths = Values::new(b"L", headers);
     holds(
         rt,
@@ -78,74 +30,80 @@ fn are_the_lengths(rt: &impl Abort, headers: &[Header<Global>]) {
     holds(rt, lengths.next().is_none(), "one length alone");
 }
 
-/// Whether the message made again is written as this text.
-fn is_written_as(alloc: Global, message: &Message<Global>, text: &[u8]) -> bool {
-    match made_again(alloc, message) {
-        Ok(made) => writes(alloc, &made, text),
-        Err(_) => false,
+/// How many lines are passed one after the other.
+fn walked(headers: HeaderLines<'_>) -> usize {
+    let mut count = 0usize;
+    for _line in headers {
+        count = count.saturating_add(1);
     }
+    count
 }
 
-/// Whether the message of a text, made again, is written as it was.
-fn is_made_of(alloc: Global, text: &[u8]) -> bool {
-    match read(alloc, text) {
-        Some(message) => is_written_as(alloc, &message, text),
+/// Whether there are so many lines.
+fn are(headers: HeaderLines<'_>, count: usize) -> bool {
+    headers.len() == count && walked(headers) == count && headers.is_empty() == (count == 0)
+}
+
+/// Whether a line is there, of that name and that value.
+fn is_line(line: Option<HeaderLine<'_>>, name: &[u8], value: &[u8]) -> bool {
+    match line {
+        Some(line) => line.name == name && line.value == value,
         None => false,
     }
 }
 
-/// Whether the message of that request with a body, made again, is written as it was.
-fn is_made_again(alloc: Global) -> bool {
-    match changed(alloc, 7, b"Content-Length: 4", b"body") {
-        Some(text) => is_made_of(alloc, &text),
-        None => false,
+/// The first of some lines.
+fn first_of(headers: HeaderLines<'_>) -> Option<HeaderLine<'_>> {
+    match headers.split_first() {
+        Some((line, _)) => Some(line),
+        None => None,
     }
 }
 
-/// Ends the test where the message made again has not the lengths of its text.
-fn keeps_its_lengths(rt: &impl Abort, alloc: Global, message: &Message<Global>) {
-    match made_again(alloc, message) {
-        Ok(made) => are_the_lengths(rt, made.headers()),
-        Err(_) => holds(rt, false, "the message is made again"),
+/// Ends the test where the lines in front of a place and behind it are not these.
+fn are_cut(rt: &impl Abort, headers: HeaderLines<'_>) {
+    if headers.len() < 2 {
+        return holds(rt, false, "two lines are there");
     }
+    let (front, back) = headers.split_at(2);
+    holds(rt, are(front, 2) && are(back, 5), "two lines and five");
+    holds(
+        rt,
+        is_line(first_of(back), b"f", b"<sip:alice@example.com>;tag=1"),
+        "the line behind the place",
+    );
+    holds(
+        rt,
+        is_line(front.get(1), b"Max-Forwards", b"70"),
+        "the line before it",
+    );
+    holds(rt, front.get(2).is_none(), "no line behind it in front");
 }
 
-/// The laws, called once.
-fn laws() {
-    text_is_message();
-    spelling_is_text();
-    round_trip();
-    faults_are_of_the_text();
+/// Ends the test where these are not the lines of the request with a body.
+fn are_the_lines(rt: &impl Abort, message: &Message<Global>) {
+    let headers = message.headers();
+    holds(rt, are(headers, 7), "seven lines");
+    holds(
+        rt,
+        is_line(headers.get(6), b"Content-Length", b"4"),
+        "the last line",
+    );
+    are_cut(rt, headers);
+    are_the_lengths(rt, headers);
 }
 
-/// The header lines of a message that is made of parts.
 #[test]
-fn makes_a_message_of_parts(rt: HostRuntime) {
+fn header_lines_are_walked_and_cut(rt: HostRuntime) {
     laws();
-    let alloc = rt.alloc();
+    let none = HeaderLines::none();
     holds(
         &rt,
-        is_made_again(alloc),
-        "the message of those parts is written as they were read",
+        are(none, 0) && none.split_first().is_none(),
+        "no lines at all",
     );
-    match message_changed(alloc, 7, b"Content-Length: 4", b"body") {
-        Some(message) => keeps_its_lengths(&rt, alloc, &message),
+    match message_changed(rt.alloc(), 7, b"Content-Length: 4", b"body") {
+        Some(message) => are_the_lines(&rt, &message),
         None => holds(&rt, false, "the message is read"),
     }
-}
-
-/// Whether a header line keeps its name and the part of its value that is asked for.
-fn keeps_part(alloc: Global) -> bool {
-    match Header::new(alloc, b"Route", b"<sip:a>, <sip:b> ") {
-        Ok(mut header) => {
-            header.keep_value_part(9, 7);
-            is(header.name(), b"Route") && is(header.value(), b"<sip:b>")
-        }
-        Err(_) => false,
-    }
-}
-
-#[test]
-fn keeps_a_part_of_a_value(rt: HostRuntime) {
-    holds(&rt, keeps_part(rt.alloc()), "the second value alone");
 }

@@ -6,5 +6,5 @@ returns-in_err-branch-clause-none g c =
     let call = c.args.state.now in
     let m = c.args.message.now in
     rw c.from_residual.ensures
-    (unnamed call m c.opened-opened.result.now c.own.result c.branch.result c.requires c.opened-opened.ensures c.own.ensures c.branch.ensures c.are_branches.ensures
+    (unnamed call m c.opened-opened.result.now c.own.result c.branch-opened.result c.requires c.opened-opened.ensures c.own.ensures c.branch-opened.ensures c.are_branches.ensures
     c.in_err-branch.ensures.none)

@@ -9,7 +9,7 @@ returns-in_err-pad-clause-err g c = on_err c.from_residual-in_err-pad.result (c.
 pub invariant_of-self-2 : goal.invariant_of-self-2
 invariant_of-self-2 g c =
     let B : Call → Type 0 = λ x. BelongsTo x c.args.message (seen_recipient c.args.to) in
-    let belongs = subst B (sym c.self.view_is) c.requires in
+    let belongs = subst B (sym c.self.view_is) c.requires.belongs in
     let call = c.self.inside.state in
     let new = c.give-taken.new.state in
     let r = seen_recipient c.args.to in
@@ -37,14 +37,14 @@ invariant_of-self-2 g c =
 pub returns-clause-step : goal.returns-clause-step
 returns-clause-step g c =
     let B : Call → Type 0 = λ x. BelongsTo x c.args.message (seen_recipient c.args.to) in
-    let belongs = subst B (sym c.self.view_is) c.requires in
+    let belongs = subst B (sym c.self.view_is) c.requires.belongs in
     ok_takes c.self.inside.state c.give-taken.new.state c.args.self.now c.self.view_is c.args.now c.args.message c.args.source (seen_recipient c.args.to) belongs
     c.give-taken.result c.give-taken.ensures.step
 
 pub returns-clause-full : goal.returns-clause-full
 returns-clause-full g c =
     let B : Call → Type 0 = λ x. BelongsTo x c.args.message (seen_recipient c.args.to) in
-    let belongs = subst B (sym c.self.view_is) c.requires in
+    let belongs = subst B (sym c.self.view_is) c.requires.belongs in
     full_takes c.self.inside.state c.give-taken.new.state c.args.self.now c.self.view_is c.args.now c.args.message c.args.source (seen_recipient c.args.to) belongs
     c.give-taken.result c.give-taken.ensures.err c.give-taken.ensures.full
 
