@@ -40,10 +40,11 @@ fn append_line<A: Allocator + Clone>(
 ) -> Result<(), AllocError> {
     let uri = asked_uri(heap, call);
     let caller = call.caller();
+    let address = caller.addr;
     let shown = CallShown {
         number: call.number(),
         age,
-        address: caller.addr,
+        address,
         port: caller.port,
         method: call.request().method().unwrap_or(b"-"),
         user: user_of(&uri),
