@@ -64,14 +64,20 @@ fn is_posted(alloc: Global, context: &mut Context, n: u16, code: u16) -> bool {
     }
 }
 
-/// The block of a call to so many targets to whose branches this happened.
-fn block_of(alloc: Global, count: u8, events: &[(u16, u16)]) -> Option<Vec<u8>> {
+/// A context of so many targets to whose branches this happened.
+fn context_after(alloc: Global, count: u8, events: &[(u16, u16)]) -> Option<Context> {
     let mut context = context_of(alloc, count)?;
     for (n, code) in events {
         if !is_posted(alloc, &mut context, *n, *code) {
             return None;
         }
     }
+    Some(context)
+}
+
+/// The block of a call to so many targets to whose branches this happened.
+fn block_of(alloc: Global, count: u8, events: &[(u16, u16)]) -> Option<Vec<u8>> {
+    let context = context_after(alloc, count, events)?;
     let mut block = Vec::new(alloc);
     match append_call(&mut block, &HEAD, &context, &[]) {
         Ok(()) => Some(block),
@@ -198,9 +204,9 @@ fn the_line_says_why_an_answer_went_up(rt: HostRuntime) {
 /// What is noted of these targets, of which this happened, each a tenth of a second behind the one before.
 fn notes_of(alloc: Global, events: &[(u16, u16)]) -> Option<Vec<Note>> {
     let mut notes = Vec::new(alloc);
-    let mut at = 0;
+    let mut at: u64 = 0;
     for (n, code) in events {
-        at += 100;
+        at = at.saturating_add(100);
         let event = event_of(alloc, *n, *code)?;
         if let Some(note) = Note::of(&event, at)
             && notes.push(note).is_err()
@@ -272,32 +278,40 @@ fn each_target_has_a_line_of_what_it_did(rt: HostRuntime) {
     holds(&rt, are_lines(rt.alloc(), &notes, line), line);
 }
 
-/// What an operator is told of a call to two targets to which this happened, a tenth of a second apart: its line, and that of target 0.
+const SHOWN: CallShown<'static> = CallShown {
+    number: 17,
+    age: Some(5_230),
+    address: [192, 0, 2, 7],
+    port: 5061,
+    method: b"INVITE",
+    user: b"b ob",
+};
+
+/// Since when the branch of target 0 stands as it does, by these notes.
+fn times_of(context: &Context, notes: &[Note]) -> BranchTimes {
+    let since = match context.look(0) {
+        Some(view) => since(notes, 0, view.row.state),
+        None => None,
+    };
+    BranchTimes { since, left: None }
+}
+
+/// Appends what an operator is told of a call: its line, and that of target 0. Says whether there was memory for them.
+fn is_appended(told: &mut Vec<u8>, context: &Context, notes: &[Note]) -> bool {
+    append_call_line(told, &SHOWN, context).is_ok()
+        && append_branch_line(told, context, 0, times_of(context, notes)).is_ok()
+}
+
+/// What an operator is told of a call to two targets to which this happened, a tenth of a second apart.
 fn told_of(alloc: Global, events: &[(u16, u16)]) -> Option<Vec<u8>> {
-    let mut context = context_of(alloc, 2)?;
-    for (n, code) in events {
-        if !is_posted(alloc, &mut context, *n, *code) {
-            return None;
-        }
-    }
-    let shown = CallShown {
-        number: 17,
-        age: Some(5_230),
-        address: [192, 0, 2, 7],
-        port: 5061,
-        method: b"INVITE",
-        user: b"b ob",
-    };
+    let context = context_after(alloc, 2, events)?;
     let notes = notes_of(alloc, events)?;
-    let state = context.look(0)?.row.state;
-    let times = BranchTimes {
-        since: since(notes.as_slice(), 0, state),
-        left: None,
-    };
     let mut told = Vec::new(alloc);
-    append_call_line(&mut told, &shown, &context).ok()?;
-    append_branch_line(&mut told, &context, 0, times).ok()?;
-    Some(told)
+    if is_appended(&mut told, &context, notes.as_slice()) {
+        Some(told)
+    } else {
+        None
+    }
 }
 
 /// Whether this is told of such a call.
