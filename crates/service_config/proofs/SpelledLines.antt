@@ -1,5 +1,5 @@
 -- Each spelling of a line is read as that line.
-use Rattle.service_config.proofs.Common.{◌≡◌, ℕ, ◌≤◌, Bool, true, false, cond, List, [], ◌∷◌, ◌++◌, Option, Some, None, refl, ap, sym, ◌∙◌, arith, codes, option_map, option_and_then, and_parts, eq-eqb, list_all, length, decimal, AllByRecursion}
+use Rattle.service_config.proofs.Common.{◌≡◌, ℕ, ◌≤◌, Bool, true, false, cond, List, [], ◌∷◌, ◌++◌, Option, Some, None, refl, ap, sym, ◌∙◌, arith, codes, option_map, option_and_then, and_parts, eq-eqb, bytes_eq, list_all, length, decimal, AllByRecursion}
 use Rattle.service_config.proofs.Common.{Lacks, Lacks-append, Lacks-pass, behind, cut, is, cut_again, decimal_lacks, number_read, plain_number_within, most_q, number_before, number_from, number_before_read, number_from_read, is_no_lf, ◌==◌, ◌%◌, ◌&&◌}
 use Rattle.service_config.proofs.Common.{Algorithms, algorithms_named, AreExpirations, Expirations, CommentLine, GatewayLine, HasParts, IsLine, IsLocationLine, IsNet, IsRing, IsRingIfAny, Line, LocationLine, Net, RealmLine, RingLine, SetupLine, StrangersLine, TrustLine, ExpiresLine}
 use Rattle.service_config.proofs.Common.{address_number, algorithms_text, are_expirations, block, expirations_text, is_location, is_realm, is_realm_byte, line_text, most_expiration, most_ring, net_text, says_nothing}
@@ -10,7 +10,7 @@ use Rattle.sip_via.specs.Address.{address_text}
 use Rattle.proxy_config.proofs.laws.Lines as setup_laws
 use Rattle.proxy_config.specs.Line as setup
 use Rattle.proxy_config.specs.LineReading as setup_line
-use Rattle.service_config.specs.inner.LineReading.{expirations_if, gateway_of, location_cut, net_at, net_cut, net_if, of_setup, read_expirations, read_line, read_net, read_plain, realm_cut, second_expiration, third_expiration}
+use Rattle.service_config.specs.inner.LineReading.{expirations_if, gateway_of, location_cut, net_at, net_cut, net_if, of_setup, read_cut, read_expirations, read_line, read_net, read_plain, realm_cut, second_expiration, third_expiration}
 use Rattle.service_config.proofs.Plain.{no_lf}
 
 abbrev Cut : Type 0
@@ -97,7 +97,8 @@ plain_read (GatewayLine q uri) h =
 plain_read (LocationLine user q uri seconds) h =
     ap (option_and_then of_setup) (setup_laws.line_read (setup.LocationLine user q (uri ++ behind 32 (option_map decimal seconds))) (h.user_is, h.q_within))
     ∙ location_read user q uri seconds h
-plain_read (CommentLine text) h = ap (λ (b : Bool). cond b (Some (CommentLine text)) _) h
+plain_read (CommentLine text) h =
+    ap (λ (b : Bool). cond b (Some (CommentLine text)) (cond (bytes_eq text (codes "strangers")) (Some StrangersLine) (read_cut text (cut (is 32) text)))) h
 
 pub line_read : (line : Line) → IsLine line → read_line (line_text line) ≡ Some line
 line_read line h =

@@ -4,7 +4,8 @@ use config_form::{ServiceForm, ServiceMalformed, service_form_at};
 use std::alloc::{AllocError, Global};
 
 /// Lines that are malformed, the last of which no line feed ends.
-const TEXT: &[u8] = b"own 0.0.0.0 5060\ninstance 07\ndomain\nprefer 500,401\ndepth  7\nring 0\nrealm a\"b\nexpires 1 2\nstrangers yes\n\
+const TEXT: &[u8] =
+    b"own 0.0.0.0 5060\ninstance 07\ndomain\nprefer 500,401\ndepth  7\nring 0\nrealm a\"b\nexpires 1 2\nstrangers yes\n\
 trust 10.0.0.1/8\ngateway 1000\nlocation bob\r\nRing 15\n strangers\nown";
 
 /// The numbers of its lines and of some that it has not, each with the form.
@@ -31,7 +32,11 @@ const FORMS: [(usize, ServiceForm); 17] = [
 #[test]
 fn each_word_has_its_form(rt: HostRuntime) {
     for (number, form) in FORMS {
-        holds(&rt, service_form_at(TEXT, number) == form, "the form of a line");
+        holds(
+            &rt,
+            service_form_at(TEXT, number) == form,
+            "the form of a line",
+        );
     }
 }
 
