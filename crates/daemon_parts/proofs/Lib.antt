@@ -1,1 +1,1 @@
-pub pub mod laws
+pub mod laws
