@@ -122,7 +122,7 @@ pub fn read_setup<R: ProxyFiles>(
     rt: &R,
     alloc: Global,
     config: &str,
-    seconds: u32,
+    number: u32,
 ) -> Result<Setup<Global>, DaemonFault>
     ensures { IfErr result IsConfigurationFault }
 {
@@ -130,11 +130,11 @@ pub fn read_setup<R: ProxyFiles>(
         Ok(text) => text,
         Err(error) => return Err(configuration_fault(error)),
     };
-    read_text(alloc, text.as_slice(), seconds)
+    read_text(alloc, text.as_slice(), number)
 }
 
-/// Reads a configuration's file anew for a proxy that has this identity. The number is the one that the file was completed by at the
-/// start, so a file that has no line of an instance keeps it.
+/// Reads a configuration's file anew for a proxy that has this identity. The number is that of its run, which is the instance of a file
+/// that has no line of one.
 ///
 /// # Errors
 ///
@@ -143,13 +143,13 @@ pub fn read_again<R: ProxyFiles>(
     rt: &R,
     alloc: Global,
     config: &str,
-    seconds: u32,
+    number: u32,
     identity: Identity,
 ) -> Result<Setup<Global>, DaemonFault>
     ensures own { IfOk result (λ setup. setup.own ≡ identity.own) }
     ensures instance { IfOk result (λ setup. setup.instance ≡ identity.instance) }
 {
-    let setup = read_setup(rt, alloc, config, seconds)?;
+    let setup = read_setup(rt, alloc, config, number)?;
     if setup.own() != identity.own || setup.instance() != identity.instance {
         return Err(DaemonFault::Identity);
     }

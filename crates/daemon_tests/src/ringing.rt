@@ -203,7 +203,14 @@ fn ends_so<R: Wait + Clock>(rt: &R, alloc: Global, end: &[Moment]) -> bool {
 #[test]
 fn a_telephone_rings_for_so_long_and_the_next_is_called(rt: HostRuntime) {
     plays_by(&rt, rt.alloc(), FIFTEEN, PLAIN, GROUPS, "two groups");
-    plays_by(&rt, rt.alloc(), FIRST_ALONE, PLAIN, GROUPS, "a time of its own");
+    plays_by(
+        &rt,
+        rt.alloc(),
+        FIRST_ALONE,
+        PLAIN,
+        GROUPS,
+        "a time of its own",
+    );
 }
 
 #[test]

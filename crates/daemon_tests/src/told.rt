@@ -22,9 +22,9 @@ const CONTROL: &str = "forkproxyd_test_told_control";
 
 const JOURNAL: &str = "forkproxyd_test_told_journal";
 
-/// One user at two telephones, which have one socket, and another at one that rings for a second.
+/// One user at two telephones, and another at one that rings for a second and one that is called then. All have one socket.
 const CONFIGURATION: &[u8] =
-    b"own 127.0.0.1 47470\ndomain example.com\nring 30\nlocation eve 1000 sip:eve@127.0.0.1:47472 1\nlocation bob 1000 sip:bob@127.0.0.1:47472\nlocation bob 1000 sip:robert@127.0.0.1:47472\n";
+    b"own 127.0.0.1 47470\ndomain example.com\nring 30\nlocation eve 1000 sip:eve@127.0.0.1:47472 1\nlocation eve 500 sip:evelyn@127.0.0.1:47472\nlocation bob 1000 sip:bob@127.0.0.1:47472\nlocation bob 1000 sip:robert@127.0.0.1:47472\n";
 
 const OPTIONS: Options<'static> = Options {
     config: CONFIG,
@@ -153,7 +153,7 @@ fn given_up<R: Net + Clock>(rt: &R, alloc: Global, agents: &Agents) -> &'static 
     "nothing"
 }
 
-/// How many milliseconds a telephone of eve's rings before it is cancelled, without a Reason.
+/// How many milliseconds eve's first telephone rings before it is cancelled, without a Reason; it answers that it stops.
 fn rung_for<R: Clock>(rt: &R, agents: &Agents, call: &str) -> Option<u64> {
     agents.sends_for_caller(Asked {
         method: "INVITE",
@@ -177,11 +177,17 @@ fn rung_for<R: Clock>(rt: &R, agents: &Agents, call: &str) -> Option<u64> {
     Some(u64::try_from(passed.as_millis()).unwrap_or(u64::MAX))
 }
 
-/// Whether a telephone rings for a second, and not much longer.
+/// A telephone rings for a second, and not much longer; then the next one is called, and answers; says what did not hold.
 fn rings_a_second<R: Clock>(rt: &R, agents: &Agents) -> &'static str {
     match rung_for(rt, agents, "three") {
-        Some(millis) if millis >= 900 && millis < 2_500 => "nothing",
-        _ => "a telephone rings for as long as its line says",
+        Some(millis) if millis >= 900 && millis < 2_500 => {}
+        _ => return "a telephone rings for as long as its line says",
+    }
+    match agents.gets("INVITE sip:evelyn@", "three") {
+        Some(invite)
+            if agents.answers(invite.as_slice(), "SIP/2.0 200 OK\r\n")
+                && agents.hears("SIP/2.0 200", "three") => { "nothing" }
+        _ => "the next telephone is called then, and answers",
     }
 }
 

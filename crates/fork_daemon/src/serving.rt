@@ -187,12 +187,12 @@ fn serve_setup<R: Threads + Wait + Net + ProxyFiles + PageSockets + Clock + Prin
     }
 }
 
-/// Reads a configuration's file, and answers whether a proxy would serve by it. Where it has no line of an instance, none is missing:
-/// whichever number a run has, its line is well-formed.
+/// Reads a configuration's file, and answers whether a proxy would serve by it. Where it has no line of an instance, none is missing.
 ///
 /// # Errors
 ///
-/// `Unreadable` where the system refuses; `TooLong` over 1,048,576 bytes; `Line` with the first malformed line; `NoMemory`.
+/// `Unreadable` where the system refuses; `TooLong` over 1,048,576 bytes; `Line` with the first malformed line; `Unobeyed` with a line that
+/// is not obeyed yet; `NoMemory`.
 pub fn check_config<R: ProxyFiles>(rt: &R, alloc: Global, config: &str) -> Result<(), DaemonFault>
     ensures { IfErr result IsConfigurationFault }
 {

@@ -1,10 +1,10 @@
 //! What a service is made of below its threads.
 use crate::holds::holds;
 use daemon_parts::{
-    Counts, DaemonFault, Gauges, Identity, Marks, Places, ProxyFiles, Sent, Socket, calls_within,
-    configuration_fault, control_fault, group_limit, is_keep_alive, journal_fault, memory_total,
-    UnobeyedLine, metrics_fault, most_calls_here, read_again, read_setup, read_text, resident_bytes,
-    resident_pages, socket_fault,
+    Counts, DaemonFault, Gauges, Identity, Marks, Places, ProxyFiles, Sent, Socket, UnobeyedLine,
+    calls_within, configuration_fault, control_fault, group_limit, is_keep_alive, journal_fault,
+    memory_total, metrics_fault, most_calls_here, read_again, read_setup, read_text,
+    resident_bytes, resident_pages, socket_fault,
 };
 use sip_uri::{Hop, Transport};
 use sip_via::Own;
