@@ -1,6 +1,7 @@
 -- Why a proxy does not serve, or serves no longer.
 use Rattle.std.specs.Prelude.{◌<◌, ◌≤◌, ℕ, List, length}
-use Rattle.daemon_parts.specs.Completion.{IsMalformedIn, IsMalformedLine}
+use Rattle.service_config.specs.Configuration.{IsMalformedAt}
+use Rattle.daemon_parts.specs.Configured.{IsUnobeyedIn}
 use Rattle.daemon_parts.specs.declared.fault.DaemonFault.{DaemonFault}
 use Rattle.daemon_parts.specs.declared.fault.DaemonFault.TheVariants as fault
 
@@ -8,6 +9,7 @@ abbrev pub exit_status : DaemonFault → ℕ
 exit_status fault.Unreadable = 1
 exit_status fault.TooLong = 1
 exit_status (fault.Line n) = 1
+exit_status (fault.Unobeyed l) = 1
 exit_status fault.Identity = 1
 exit_status fault.NoMemory = 3
 exit_status fault.Clock = 5
@@ -20,24 +22,21 @@ exit_status fault.Journal = 5
 abbrev pub most_text : ℕ
 most_text = 1048576
 
--- why the whole text is not read that a text was completed to
-abbrev pub IsFaultIn : (whole text : List ℕ) → DaemonFault → Type 0
-IsFaultIn whole text (fault.Line n) = IsMalformedIn whole text n
-IsFaultIn whole text fault.NoMemory = Unit {0}
-IsFaultIn whole text _ = ⊥
-
--- what each fault says of a text that was read, and completed by this number: it is too long; it is not, and this is its first malformed line
+-- what each fault says of a text that was read in a run with this number: it is too long; it is not, and this is its first malformed line, or a
+-- line that is not obeyed yet
 abbrev pub IsFaultOf : List ℕ → ℕ → DaemonFault → Type 0
-IsFaultOf text seconds fault.TooLong = most_text < length text
-IsFaultOf text seconds (fault.Line n) = (length text ≤ most_text) × IsMalformedLine text seconds n
-IsFaultOf text seconds fault.NoMemory = length text ≤ most_text
-IsFaultOf text seconds _ = ⊥
+IsFaultOf text number fault.TooLong = most_text < length text
+IsFaultOf text number (fault.Line n) = (length text ≤ most_text) × IsMalformedAt number text n
+IsFaultOf text number (fault.Unobeyed l) = (length text ≤ most_text) × IsUnobeyedIn text number l
+IsFaultOf text number fault.NoMemory = length text ≤ most_text
+IsFaultOf text number _ = ⊥
 
 -- why a configuration's file is not taken
 abbrev pub IsConfigurationFault : DaemonFault → Type 0
 IsConfigurationFault fault.Unreadable = Unit {0}
 IsConfigurationFault fault.TooLong = Unit {0}
 IsConfigurationFault (fault.Line n) = Unit {0}
+IsConfigurationFault (fault.Unobeyed l) = Unit {0}
 IsConfigurationFault fault.NoMemory = Unit {0}
 IsConfigurationFault _ = ⊥
 

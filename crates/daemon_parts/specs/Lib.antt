@@ -1,4 +1,4 @@
-pub mod Completion
+pub mod Configured
 pub mod Faults
 pub mod KeepAlive
 pub mod Memory

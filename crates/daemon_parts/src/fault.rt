@@ -3,6 +3,7 @@ ghost use Rattle.std.specs.Prelude.{◌≡◌};
 ghost use Rattle.daemon_parts.specs.declared.fault.DaemonFault.TheVariants as faults;
 ghost use Rattle.daemon_parts.specs.Faults.{exit_status, IsConfigurationFault, IsControlFault, IsJournalFault, IsMetricsFault, IsSocketFault};
 
+use crate::setup::UnobeyedLine;
 use std::alloc::AllocError;
 use std::io;
 use std::io::ErrorKind;
@@ -20,6 +21,9 @@ pub enum DaemonFault {
     /// The first malformed line of the configuration, counted from 1; a missing one has the number that it would have.
     #[error("configuration, line {0}: malformed")]
     Line(usize),
+    /// A line of the configuration is not obeyed yet.
+    #[error("configuration: {0} is not obeyed yet")]
+    Unobeyed(UnobeyedLine),
     /// The address or the instance of a configuration that is read anew is another one.
     #[error("address and instance may not change")]
     Identity,
@@ -53,6 +57,7 @@ impl DaemonFault {
             DaemonFault::Unreadable
             | DaemonFault::TooLong
             | DaemonFault::Line(_)
+            | DaemonFault::Unobeyed(_)
             | DaemonFault::Identity => 1,
             DaemonFault::NoMemory => 3,
             DaemonFault::Clock

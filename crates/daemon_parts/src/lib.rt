@@ -3,7 +3,6 @@
 #![tactic(auto)]
 
 mod call_counts;
-mod completion;
 mod control_file;
 mod count;
 mod counts;
@@ -38,5 +37,5 @@ pub use memory::{
 };
 pub use options::Options;
 pub use places::Places;
-pub use setup::{Identity, read_again, read_setup, read_text};
+pub use setup::{Identity, UnobeyedLine, read_again, read_setup, read_text};
 pub use socket::{Sent, Socket};

@@ -1,16 +1,16 @@
 //! The configuration of a proxy, as it is read at its start and anew while it serves.
 ghost use Rattle.std.specs.Prelude.{◌≡◌, ◌<◌, ◌↔◌, length, IfErr, IfOk, IsErrOf, IsTrue};
-ghost use Rattle.proxy_config.specs.Configuration.{IsConfiguration};
 ghost use Rattle.daemon_parts.specs.declared.fault.DaemonFault.TheVariants as faults;
-ghost use Rattle.daemon_parts.specs.Completion.{completed};
-ghost use Rattle.daemon_parts.specs.Faults.{most_text, IsConfigurationFault, IsFaultIn, IsFaultOf};
+ghost use Rattle.daemon_parts.specs.Configured.{are_usual, unobeyed, IsConfigured, IsFaultIn, IsSetupIn};
+ghost use Rattle.daemon_parts.specs.Faults.{most_text, IsConfigurationFault, IsFaultOf};
 
-use crate::completion::{completed, line_in_text};
 use crate::fault::{DaemonFault, configuration_fault};
 use crate::files::ProxyFiles;
 use proxy_config::{Setup, SetupFault};
+use service_config::{Expirations, ServiceSettings};
 use sip_via::Own;
 use std::alloc::{Allocator, Global};
+use thiserror::Error;
 
 /// How many bytes a configuration has at most.
 const MOST_TEXT: usize = 1_048_576;
@@ -35,45 +35,82 @@ impl Identity {
     }
 }
 
-/// Reads a text as a whole one; a malformed line is told by its number in the text that it was completed from.
-fn read_whole<A: Allocator + Clone>(
-    alloc: A,
-    whole: &[u8],
-    text: &[u8],
-) -> Result<Setup<A>, DaemonFault>
-    ensures ok { IfOk result (IsConfiguration whole.now) }
-    ensures short { ¬ IsErrOf result faults.TooLong }
-    ensures fault { IfErr result (IsFaultIn whole.now text.now) }
+/// A line that a configuration may have, and that is not obeyed yet. A proxy that served without it would let in whom the line keeps out, or
+/// send where the line does not say.
+#[derive(Clone, Copy, PartialEq, Eq, Debug, Error)]
+pub enum UnobeyedLine {
+    #[error("realm")]
+    Realm,
+    #[error("expires")]
+    Expires,
+    #[error("strangers")]
+    Strangers,
+    #[error("trust")]
+    Trust,
+    #[error("gateway")]
+    Gateway,
+}
+
+/// Whether the times of registrations are those of a configuration without such a line.
+fn are_usual(expirations: Expirations) -> bool
+    ensures { result ≡ are_usual expirations }
 {
-    match Setup::read(alloc, whole) {
-        Ok(setup) => Ok(setup),
-        Err(SetupFault::Line(line)) => Err(DaemonFault::Line(line_in_text(text, line))),
-        Err(SetupFault::NoMemory) => Err(DaemonFault::NoMemory),
+    expirations.least == 60 && expirations.usual == 3_600 && expirations.most == 86_400
+}
+
+/// Which line of a configuration is not obeyed yet, if it has one.
+fn unobeyed<A: Allocator>(settings: &ServiceSettings<A>) -> Option<UnobeyedLine>
+    ensures { result ≡ unobeyed settings.now }
+{
+    if settings.realm().is_some() {
+        Some(UnobeyedLine::Realm)
+    } else if !are_usual(settings.expirations()) {
+        Some(UnobeyedLine::Expires)
+    } else if settings.serves_strangers() {
+        Some(UnobeyedLine::Strangers)
+    } else if !settings.nets().is_empty() {
+        Some(UnobeyedLine::Trust)
+    } else if !settings.gateways().is_empty() {
+        Some(UnobeyedLine::Gateway)
+    } else {
+        None
     }
 }
 
-/// Reads the text of a configuration (see [`Setup::read`]). Where its second line is no line of an instance, this number is the
-/// instance.
+/// The setup of these settings, where each of their lines is obeyed.
+fn setup_in<A: Allocator + Clone>(settings: ServiceSettings<A>) -> Result<Setup<A>, DaemonFault>
+    ensures ok { IfOk result (IsSetupIn settings) }
+    ensures fault { IfErr result (IsFaultIn settings) }
+{
+    match unobeyed(&settings) {
+        Some(line) => Err(DaemonFault::Unobeyed(line)),
+        None => Ok(settings.into_setup()),
+    }
+}
+
+/// Reads the text of a configuration (see [`ServiceSettings::read`]). Where it has no line of an instance, this number is the instance.
 ///
 /// # Errors
 ///
 /// `TooLong` over 1,048,576 bytes; else `Line` with the first malformed line of the text, a missing one by the number that it would
-/// have; `NoMemory` where the allocator refuses.
-#[tactic(auto, using(crate::proofs::Faults::in_is_of))]
+/// have; else `Unobeyed` with a line that is not obeyed yet; `NoMemory` where the allocator refuses.
 pub fn read_text<A: Allocator + Clone>(
     alloc: A,
     text: &[u8],
-    seconds: u32,
+    number: u32,
 ) -> Result<Setup<A>, DaemonFault>
-    ensures ok { IfOk result (IsConfiguration (completed text.now seconds)) }
+    ensures ok { IfOk result (IsConfigured text.now number) }
     ensures too_long { IsErrOf result faults.TooLong ↔ (most_text < length text.now) }
-    ensures fault { IfErr result (IsFaultOf text.now seconds) }
+    ensures fault { IfErr result (IsFaultOf text.now number) }
 {
     if text.len() > MOST_TEXT {
         return Err(DaemonFault::TooLong);
     }
-    let whole = completed(alloc.clone()?, text, seconds)?;
-    read_whole(alloc, whole.as_slice(), text)
+    match ServiceSettings::read(alloc, text, number) {
+        Ok(settings) => setup_in(settings),
+        Err(SetupFault::Line(line)) => Err(DaemonFault::Line(line)),
+        Err(SetupFault::NoMemory) => Err(DaemonFault::NoMemory),
+    }
 }
 
 /// Reads a configuration's file, whose instance is this number where it has no line of one.
@@ -85,7 +122,7 @@ pub fn read_setup<R: ProxyFiles>(
     rt: &R,
     alloc: Global,
     config: &str,
-    seconds: u32,
+    number: u32,
 ) -> Result<Setup<Global>, DaemonFault>
     ensures { IfErr result IsConfigurationFault }
 {
@@ -93,11 +130,11 @@ pub fn read_setup<R: ProxyFiles>(
         Ok(text) => text,
         Err(error) => return Err(configuration_fault(error)),
     };
-    read_text(alloc, text.as_slice(), seconds)
+    read_text(alloc, text.as_slice(), number)
 }
 
-/// Reads a configuration's file anew for a proxy that has this identity. The number is the one that the file was completed by at the
-/// start, so a file that has no line of an instance keeps it.
+/// Reads a configuration's file anew for a proxy that has this identity. The number is that of its run, which is the instance of a file
+/// that has no line of one.
 ///
 /// # Errors
 ///
@@ -106,13 +143,13 @@ pub fn read_again<R: ProxyFiles>(
     rt: &R,
     alloc: Global,
     config: &str,
-    seconds: u32,
+    number: u32,
     identity: Identity,
 ) -> Result<Setup<Global>, DaemonFault>
     ensures own { IfOk result (λ setup. setup.own ≡ identity.own) }
     ensures instance { IfOk result (λ setup. setup.instance ≡ identity.instance) }
 {
-    let setup = read_setup(rt, alloc, config, seconds)?;
+    let setup = read_setup(rt, alloc, config, number)?;
     if setup.own() != identity.own || setup.instance() != identity.instance {
         return Err(DaemonFault::Identity);
     }

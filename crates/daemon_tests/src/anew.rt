@@ -12,7 +12,6 @@ const ALL: Served = Served {
     own_port: true,
     most_calls: 2,
     has_journal: true,
-    ring: None,
 };
 
 /// Bob has another telephone, and carol has none.
@@ -121,7 +120,7 @@ const LIMITS: &[Moment] = &[
     (10_050, Turn::WritesNothing),
 ];
 
-/// A configuration without a line of an instance is completed by the number of the run; one that has the line is another one then.
+/// A configuration without a line of an instance has the number of the run; one that has the line is another one then.
 const NUMBERED: &[Moment] = &[
     (0, Turn::Reloads(NO_INSTANCE, Ok(()))),
     (10, Turn::Asks(OPTIONS)),

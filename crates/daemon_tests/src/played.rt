@@ -76,8 +76,6 @@ pub struct Served {
     pub own_port: bool,
     pub most_calls: u64,
     pub has_journal: bool,
-    /// The longest time of each branch in milliseconds, where it is not that of RFC 3261 section 16.6.
-    pub ring: Option<u64>,
 }
 
 /// With a journal, and without what an option asks for.
@@ -86,7 +84,6 @@ pub const PLAIN: Served = Served {
     own_port: false,
     most_calls: 1_000,
     has_journal: true,
-    ring: None,
 };
 
 /// The number of its run.
@@ -103,10 +100,6 @@ pub fn service_over<A: Allocator + Copy>(
     served: Served,
 ) -> Option<Service<A>> {
     let setup = read_text(alloc, text, NUMBER).ok()?;
-    let setup = match served.ring {
-        Some(longest) => setup.ringing(longest),
-        None => setup,
-    };
     let terms = Terms {
         identity: Identity::of(&setup),
         number: NUMBER,

@@ -1,16 +1,18 @@
 //! For how long telephones ring, what those are told that stop, and what an operator sees of it.
 use crate::holds::holds;
-use crate::played::{Moment, PLAIN, Played, Served, Turn, plays};
+use crate::played::{Moment, PLAIN, Played, Turn, plays_by};
 use crate::texts::{BOB, CALLER, CANCEL, CAROL, CAROL_AFTERWARDS, INVITE, Request};
 use std::alloc::Global;
 use std::sync::Wait;
 use std::time::Clock;
 
 /// Each telephone rings for 15 seconds at most.
-const FIFTEEN: Served = Served {
-    ring: Some(15_000),
-    ..PLAIN
-};
+const FIFTEEN: &[u8] =
+    b"# carol's telephones\nown 192.0.2.9 5060\ninstance 7\ndomain example.com\nring 15\n\nlocation carol 1000 sip:carol@192.0.2.5\nlocation carol 500 sip:carol@192.0.2.6\n";
+
+/// The same, where the second one alone has the time of the line `ring`.
+const FIRST_ALONE: &[u8] =
+    b"own 192.0.2.9 5060\ninstance 7\ndomain example.com\nring 60\nlocation carol 1000 sip:carol@192.0.2.5 15\nlocation carol 500 sip:carol@192.0.2.6\n";
 
 /// An INVITE to carol, whose second telephone is called behind the first one.
 const TO_CAROL: Request = Request {
@@ -198,7 +200,15 @@ fn ends_so<R: Wait + Clock>(rt: &R, alloc: Global, end: &[Moment]) -> bool {
 
 #[test]
 fn a_telephone_rings_for_so_long_and_the_next_is_called(rt: HostRuntime) {
-    plays(&rt, rt.alloc(), FIFTEEN, GROUPS, "two groups");
+    plays_by(&rt, rt.alloc(), FIFTEEN, PLAIN, GROUPS, "two groups");
+    plays_by(
+        &rt,
+        rt.alloc(),
+        FIRST_ALONE,
+        PLAIN,
+        GROUPS,
+        "a time of its own",
+    );
 }
 
 #[test]

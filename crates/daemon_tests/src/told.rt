@@ -10,7 +10,7 @@ use std::fs::Files;
 use std::net::Net;
 use std::test::Fail;
 use std::thread::join;
-use std::time::Clock;
+use std::time::{Clock, Instant};
 
 /// Where the proxy listens.
 const PROXY: u16 = 47_470;
@@ -22,9 +22,9 @@ const CONTROL: &str = "forkproxyd_test_told_control";
 
 const JOURNAL: &str = "forkproxyd_test_told_journal";
 
-/// One user at two telephones, which have one socket.
+/// One user at two telephones, and another at one that rings for a second and one that is called then. All have one socket.
 const CONFIGURATION: &[u8] =
-    b"own 127.0.0.1 47470\ndomain example.com\nlocation bob 1000 sip:bob@127.0.0.1:47472\nlocation bob 1000 sip:robert@127.0.0.1:47472\n";
+    b"own 127.0.0.1 47470\ndomain example.com\nring 30\nlocation eve 1000 sip:eve@127.0.0.1:47472 1\nlocation eve 500 sip:evelyn@127.0.0.1:47472\nlocation bob 1000 sip:bob@127.0.0.1:47472\nlocation bob 1000 sip:robert@127.0.0.1:47472\n";
 
 const OPTIONS: Options<'static> = Options {
     config: CONFIG,
@@ -153,15 +153,59 @@ fn given_up<R: Net + Clock>(rt: &R, alloc: Global, agents: &Agents) -> &'static 
     "nothing"
 }
 
+/// How many milliseconds eve's first telephone rings before it is cancelled, without a Reason; it answers that it stops.
+fn rung_for<R: Clock>(rt: &R, agents: &Agents, call: &str) -> Option<u64> {
+    agents.sends_for_caller(Asked {
+        method: "INVITE",
+        uri: "sip:eve@example.com",
+        call,
+        tag: "",
+        lines: "",
+    });
+    let invite = agents.gets("INVITE sip:eve@", call)?;
+    let began = Instant::now(rt).ok()?;
+    if !agents.answers(invite.as_slice(), "SIP/2.0 180 Ringing\r\n") {
+        return None;
+    }
+    let cancel = agents.gets("CANCEL sip:eve@", call)?;
+    let passed = began.elapsed(rt).ok()?;
+    if has_line(cancel.as_slice(), "\r\nReason:") {
+        return None;
+    }
+    agents.answers(cancel.as_slice(), "SIP/2.0 200 OK\r\n");
+    agents.answers(invite.as_slice(), "SIP/2.0 487 Request Terminated\r\n");
+    Some(u64::try_from(passed.as_millis()).unwrap_or(u64::MAX))
+}
+
+/// A telephone rings for a second, and not much longer; then the next one is called, and answers; says what did not hold.
+fn rings_a_second<R: Clock>(rt: &R, agents: &Agents) -> &'static str {
+    match rung_for(rt, agents, "three") {
+        Some(millis) if millis >= 900 && millis < 2_500 => {}
+        _ => return "a telephone rings for as long as its line says",
+    }
+    match agents.gets("INVITE sip:evelyn@", "three") {
+        Some(invite)
+            if agents.answers(invite.as_slice(), "SIP/2.0 200 OK\r\n")
+                && agents.hears("SIP/2.0 200", "three") => { "nothing" }
+        _ => "the next telephone is called then, and answers",
+    }
+}
+
 /// Plays all, and says what did not hold.
 fn played<R: Net + Clock>(rt: &R, alloc: Global, agents: &Agents) -> &'static str {
     if !counts(rt, alloc, CONTROL, "forkproxy_calls 0\n") {
         return "the proxy answers at its control socket";
     }
-    match answered(rt, alloc, agents) {
-        "nothing" => given_up(rt, alloc, agents),
-        missed => missed,
+    for missed in [
+        answered(rt, alloc, agents),
+        given_up(rt, alloc, agents),
+        rings_a_second(rt, agents),
+    ] {
+        if missed != "nothing" {
+            return missed;
+        }
     }
+    "nothing"
 }
 
 /// Plays all, and says what did not hold; then the proxy is told to end at once.

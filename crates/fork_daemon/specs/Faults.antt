@@ -1,8 +1,8 @@
 -- Why a proxy serves no longer, or not at all.
 use Rattle.std.specs.Prelude.{◌<◌, ◌≤◌, ℕ, List, length}
-use Rattle.proxy_config.specs.Configuration.{IsConfiguration}
 use Rattle.proxy_config.specs.Setup.{Setup}
-use Rattle.daemon_parts.specs.Completion.{completed, IsMalformedLine}
+use Rattle.service_config.specs.Configuration.{IsMalformedAt}
+use Rattle.daemon_parts.specs.Configured.{IsConfigured, IsUnobeyedIn}
 use Rattle.daemon_parts.specs.declared.fault.DaemonFault.{DaemonFault}
 use Rattle.daemon_parts.specs.declared.fault.DaemonFault.TheVariants as fault
 use Rattle.daemon_parts.specs.Faults.{most_text}
@@ -17,17 +17,19 @@ IsSystemFault fault.Metrics = Unit {0}
 IsSystemFault fault.Journal = Unit {0}
 IsSystemFault _ = ⊥
 
-abbrev pub Spells : List ℕ → Type 0
-Spells text = (setup : Setup) × IsConfiguration text setup
+-- in a run with this number
+abbrev pub Spells : List ℕ → ℕ → Type 0
+Spells text number = (setup : Setup) × IsConfigured text number setup
 
--- the text is not too long, and spells a setup where it is completed by this number
+-- the text is not too long, and spells a setup in a run with this number
 abbrev pub IsRead : List ℕ → ℕ → Type 0
-IsRead text number = (length text ≤ most_text) × Spells (completed text number)
+IsRead text number = (length text ≤ most_text) × Spells text number
 
--- what each fault says of the text of the configuration: it is too long; it is not, and this is its first malformed line; it was read
+-- what each fault says of the text of the configuration: it is too long; it is not, and this is its first malformed line, or a line that is not obeyed yet; it was read
 abbrev pub IsServeFaultOf : List ℕ → ℕ → DaemonFault → Type 0
 IsServeFaultOf text number fault.TooLong = most_text < length text
-IsServeFaultOf text number (fault.Line n) = (length text ≤ most_text) × IsMalformedLine text number n
+IsServeFaultOf text number (fault.Line n) = (length text ≤ most_text) × IsMalformedAt number text n
+IsServeFaultOf text number (fault.Unobeyed l) = (length text ≤ most_text) × IsUnobeyedIn text number l
 IsServeFaultOf text number fault.NoMemory = length text ≤ most_text
 IsServeFaultOf text number fault.Clock = IsRead text number
 IsServeFaultOf text number fault.Socket = IsRead text number

@@ -3,7 +3,6 @@ ghost use denote.Param.Send.{IsSync};
 ghost use Rattle.fork_daemon.specs.contracts.serving.Server.{the_row as server_row};
 ghost use Rattle.std.specs.Prelude.{◌≡◌, ◌/◌, ◌%◌, ◌^◌, ◌↔◌, ◌<◌, length, IfErr, OnOk, IsErrOf};
 ghost use Rattle.std.specs.Duration.{as_nanos};
-ghost use Rattle.daemon_parts.specs.Completion.{completed};
 ghost use Rattle.daemon_parts.specs.declared.fault.DaemonFault.TheVariants as faults;
 ghost use Rattle.daemon_parts.specs.Faults.{most_text, IsConfigurationFault};
 ghost use Rattle.fork_daemon.specs.Faults.{IsServeFault, IsServeFaultOf, IsSystemFault, Spells};
@@ -188,12 +187,12 @@ fn serve_setup<R: Threads + Wait + Net + ProxyFiles + PageSockets + Clock + Prin
     }
 }
 
-/// Reads a configuration's file, and answers whether a proxy would serve by it. Where it has no line of an instance, none is missing:
-/// whichever number a run has, its line is well-formed.
+/// Reads a configuration's file, and answers whether a proxy would serve by it. Where it has no line of an instance, none is missing.
 ///
 /// # Errors
 ///
-/// `Unreadable` where the system refuses; `TooLong` over 1,048,576 bytes; `Line` with the first malformed line; `NoMemory`.
+/// `Unreadable` where the system refuses; `TooLong` over 1,048,576 bytes; `Line` with the first malformed line; `Unobeyed` with a line that
+/// is not obeyed yet; `NoMemory`.
 pub fn check_config<R: ProxyFiles>(rt: &R, alloc: Global, config: &str) -> Result<(), DaemonFault>
     ensures { IfErr result IsConfigurationFault }
 {
@@ -216,7 +215,7 @@ pub fn serve_text<R: Threads + Wait + Net + ProxyFiles + PageSockets + Clock + P
     number: u32,
     options: Options<'_>,
 ) -> Result<(), DaemonFault>
-    ensures served { OnOk result (Spells (completed text.now number)) }
+    ensures served { OnOk result (Spells text.now number) }
     ensures too_long { IsErrOf result faults.TooLong ↔ (most_text < length text.now) }
     ensures fault { IfErr result (IsServeFaultOf text.now number) }
 {

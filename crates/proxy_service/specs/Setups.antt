@@ -1,8 +1,7 @@
 -- The configuration of a service.
 use Rattle.std.specs.Prelude.{◌≡◌, ℕ, Bool, true, List, if◌then◌else◌}
-use Rattle.proxy_config.specs.Configuration.{IsConfiguration}
 use Rattle.proxy_config.specs.Setup.{Setup}
-use Rattle.daemon_parts.specs.Completion.{completed}
+use Rattle.daemon_parts.specs.Configured.{IsConfigured}
 use Rattle.daemon_parts.specs.Faults.{IsFaultOf}
 use Rattle.daemon_parts.specs.declared.fault.DaemonFault.{DaemonFault}
 use Rattle.daemon_parts.specs.declared.fault.DaemonFault.TheVariants as fault
@@ -29,17 +28,17 @@ pub record IsOf (identity : Identity) (setup : Setup) : Type 0 where
   pub own : setup.own ≡ identity.own
   pub instance : setup.instance ≡ identity.instance
 
--- the text, completed by the number of the run, spells it, and it is the service's
+-- the text spells it in a run with this number, and it is the service's
 pub record IsServiceSetup (terms : Terms) (text : List ℕ) (setup : Setup) : Type 0 where
   pub read : Setup
-  pub spelled : IsConfiguration (completed text terms.number) read
+  pub spelled : IsConfigured text terms.number read
   pub is_of : IsOf terms.identity read
   pub setup_is : setup ≡ service_setup terms read
 
 -- it spells another service's
 pub record IsOthers (terms : Terms) (text : List ℕ) : Type 0 where
   pub read : Setup
-  pub spelled : IsConfiguration (completed text terms.number) read
+  pub spelled : IsConfigured text terms.number read
   pub is_other : IsOf terms.identity read → ⊥
 
 abbrev pub IsReloadFault : Terms → List ℕ → DaemonFault → Type 0

@@ -1,10 +1,10 @@
 //! What a service is made of below its threads.
 use crate::holds::holds;
 use daemon_parts::{
-    Counts, DaemonFault, Gauges, Identity, Marks, Places, ProxyFiles, Sent, Socket, calls_within,
-    configuration_fault, control_fault, group_limit, is_keep_alive, journal_fault, memory_total,
-    metrics_fault, most_calls_here, read_again, read_setup, read_text, resident_bytes,
-    resident_pages, socket_fault,
+    Counts, DaemonFault, Gauges, Identity, Marks, Places, ProxyFiles, Sent, Socket, UnobeyedLine,
+    calls_within, configuration_fault, control_fault, group_limit, is_keep_alive, journal_fault,
+    memory_total, metrics_fault, most_calls_here, read_again, read_setup, read_text,
+    resident_bytes, resident_pages, socket_fault,
 };
 use sip_uri::{Hop, Transport};
 use sip_via::Own;
@@ -85,11 +85,33 @@ fn a_run_is_the_instance_that_a_text_leaves_out(rt: HostRuntime) {
     }
 }
 
+/// Whether a configuration with this line, which is not obeyed yet, is refused by its name.
+fn is_unobeyed(alloc: Global, line: &str, unobeyed: UnobeyedLine) -> bool {
+    let Ok(text) = format!(in alloc; "own 127.0.0.1 47430\ndomain example.com\n{line}\n") else {
+        return false;
+    };
+    identity_of(alloc, text.as_bytes()) == Err(DaemonFault::Unobeyed(unobeyed))
+}
+
+#[test]
+fn a_line_that_is_not_obeyed_is_refused(rt: HostRuntime) {
+    for (line, unobeyed) in [
+        ("realm example.com", UnobeyedLine::Realm),
+        ("expires 60 3600 7200", UnobeyedLine::Expires),
+        ("strangers", UnobeyedLine::Strangers),
+        ("trust 192.0.2.0/24", UnobeyedLine::Trust),
+        ("gateway 1000 sip:192.0.2.20", UnobeyedLine::Gateway),
+    ] {
+        holds(&rt, is_unobeyed(rt.alloc(), line, unobeyed), line);
+    }
+}
+
 #[test]
 fn a_fault_has_a_status(rt: HostRuntime) {
     for (fault, status) in [
         (DaemonFault::Unreadable, 1),
         (DaemonFault::Identity, 1),
+        (DaemonFault::Unobeyed(UnobeyedLine::Realm), 1),
         (DaemonFault::NoMemory, 3),
         (DaemonFault::Socket, 5),
         (DaemonFault::Metrics, 5),
