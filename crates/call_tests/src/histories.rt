@@ -12,6 +12,5 @@ mod reasons;
 mod recording;
 mod redirecting;
 mod refusing;
-mod texts;
 mod timers;
 mod two_calls;

@@ -7,9 +7,10 @@ ghost use Rattle.law_tests.specs.Played.{EndsRight, HasEnded, IsPlayed, PlayedCa
 
 use crate::playing::{Coming, come, holds, is_carried, is_ended, open, pump_to, read_message};
 use crate::port::Awaiting;
-use crate::texts::{
-    ACK_SENT, CALLER, INVITE, INVITE_SENT, NOT_FOUND, NOT_FOUND_UP, RINGING, RINGING_UP,
-    SERVER_ERROR, SETUP, Sent, TARGET, TRYING,
+use call_messages::Sent;
+use call_messages::one_target::{
+    ACK_SENT, CALLER, FAULT_UP, INVITE, INVITE_SENT, NOT_FOUND, NOT_FOUND_UP, RINGING, RINGING_UP,
+    SETUP, TARGET, TRYING,
 };
 use call_routing::is_openable;
 use fork_call::{
@@ -82,7 +83,7 @@ fn ends_right<P: Port>(
 const ANSWERED: &[&Sent] = &[&TRYING, &INVITE_SENT, &RINGING_UP, &NOT_FOUND_UP, &ACK_SENT];
 
 /// What the call sends whose INVITE is lost.
-const LOST: &[&Sent] = &[&TRYING, &INVITE_SENT, &SERVER_ERROR];
+const LOST: &[&Sent] = &[&TRYING, &INVITE_SENT, &FAULT_UP];
 
 /// Whether the call of the INVITE ends right, and sends this.
 fn is_right(alloc: Global, wanted: &'static [&'static Sent], lost: Option<u32>) -> bool {

@@ -4,7 +4,8 @@ ghost use Rattle.call_routing.specs.Opening.{IsOpenable};
 ghost use Rattle.fork_call.specs.Refused.{HoldsAlone};
 
 use crate::playing::{holds, read_message};
-use crate::texts::{CALLER, INVITE_AT_ITS_END, SETUP};
+use crate::texts::INVITE_AT_ITS_END;
+use call_messages::one_target::{CALLER, SETUP};
 use call_routing::is_openable;
 use fork_call::{Call, RequestRejection, Setup, one_fault_holds};
 use sip_text::Message;

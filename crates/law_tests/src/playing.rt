@@ -4,7 +4,7 @@ ghost use Rattle.call_model.specs.Due.{IsIdle};
 ghost use Rattle.call_routing.specs.Opening.{IsOpenable, Opens};
 ghost use Rattle.law_tests.specs.Played.{HasEnded, IsPlayed};
 
-use crate::texts::CALLER;
+use call_messages::one_target::CALLER;
 use fork_call::{Call, Cause, Datagram, Port, Setup, Step, carry};
 use sip_text::Message;
 use sip_uri::Hop;

@@ -1,5 +1,5 @@
 //! A port that looks at what it is handed.
-use crate::texts::{Sent, is_sent};
+use call_messages::{Sent, is_sent};
 use fork_call::{Datagram, Port};
 use std::alloc::Allocator;
 

@@ -1,9 +1,5 @@
 //! Calls that are carried while memory is refused and sends fail: the steps before a refusal stand, and a carry goes on where
 //! it was refused.
-use crate::call_texts::{
-    ACK, CALLER, CANCEL, INVITE, NOT_FOUND, OPTIONS, OPTIONS_NOT_FOUND, OPTIONS_NOT_FOUND_OF_FIVE,
-    RINGING, SETUP, TARGET, TERMINATED,
-};
 use crate::calls::{History, Moment, Turn};
 use crate::fork_texts::{
     FIFTH, FIFTH_NOT_FOUND, FORK_SETUP, FOURTH, FOURTH_RINGS, FOURTH_TERMINATED, SECOND,
@@ -11,6 +7,10 @@ use crate::fork_texts::{
 };
 use crate::plays::{holds, plays};
 use crate::wanted;
+use call_messages::one_target::{
+    ACK, CALLER, CANCEL, INVITE, NOT_FOUND, OPTIONS, OPTIONS_NOT_FOUND, OPTIONS_NOT_FOUND_OF_FIVE,
+    RINGING, SETUP, TARGET, TERMINATED,
+};
 use fork_call::{TakeFault, Taken};
 use refusing::{refused_always, refused_never};
 

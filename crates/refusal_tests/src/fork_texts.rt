@@ -1,6 +1,7 @@
 //! The messages of an INVITE that is forked to five targets, byte for byte, where they are not those of a call to the first
 //! alone.
-use crate::call_texts::{CALLER, Sent};
+use call_messages::Sent;
+use call_messages::one_target::CALLER;
 use fork_call::Cause;
 use sip_uri::{Hop, Transport};
 

@@ -2,10 +2,10 @@
 ghost use Rattle.std.specs.Prelude.{◌≡◌};
 
 use crate::answers::discard;
-use crate::call_texts::{ACK, CALLER, CANCEL, INVITE, OPTIONS, SETUP, TARGET};
 use crate::calls::set_up;
 use crate::plays::plays;
 use crate::sources::Alloc;
+use call_messages::one_target::{ACK, CALLER, CANCEL, INVITE, OPTIONS, SETUP, TARGET};
 use call_table::Shelf;
 use fork_call::{Call, Datagram, Port, Setup, carry};
 use proxy_dispatch::{Handled, Received, SharedCalls, Unlimited, handle};

@@ -7,8 +7,6 @@ mod answers;
 #[cfg(test)]
 mod books;
 #[cfg(test)]
-mod call_texts;
-#[cfg(test)]
 mod calls;
 #[cfg(test)]
 mod carrying;

@@ -1,13 +1,14 @@
 //! What carried calls are to send, in order.
-use crate::call_texts::{
-    ACK_SENT, CANCEL_OK, CANCEL_SENT, INVITE_SENT, NOT_FOUND_UP, OPTIONS_FAULT_UP,
-    OPTIONS_NOT_FOUND_UP, OPTIONS_SENT, RINGING_UP, Sent, TERMINATED_UP, TRYING, is_sent,
-};
 use crate::fork_texts::{
     FIFTH_ACK, FIFTH_SENT, FOURTH_ACK, FOURTH_CANCEL, FOURTH_RINGS_UP, FOURTH_SENT, SECOND_ACK,
     SECOND_CANCEL, SECOND_RINGS_UP, SECOND_SENT, THIRD_ACK, THIRD_CANCEL, THIRD_RINGS_UP,
     THIRD_SENT,
 };
+use call_messages::one_target::{
+    ACK_SENT, CANCEL_OK, CANCEL_SENT, INVITE_SENT, NOT_FOUND_UP, OPTIONS_FAULT_UP,
+    OPTIONS_NOT_FOUND_UP, OPTIONS_SENT, RINGING_UP, TERMINATED_UP, TRYING,
+};
+use call_messages::{Sent, is_sent};
 use fork_call::{Cause, Datagram};
 use std::alloc::Allocator;
 

@@ -1,8 +1,9 @@
 //! A call to two targets that both accept: each 200 goes up, also one that comes again (RFC 3261 sections 13.2.2.4, 16.7 and
 //! 17.1.1, as RFC 6026 has them).
-use crate::histories::playing::{Entry, Moment, Posted, Sent, Turn, goes_so};
-use crate::histories::texts::{CALLER, INVITE, TRYING};
+use crate::histories::playing::{Entry, Moment, Posted, Turn, goes_so};
 use crate::holds::holds;
+use call_messages::Sent;
+use call_messages::one_target::{CALLER, INVITE, TRYING};
 use fork_call::{Cause, TakeFault, Taken};
 use fork_context::Up;
 use sip_uri::{Hop, Transport};

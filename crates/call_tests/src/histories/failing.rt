@@ -1,14 +1,15 @@
 //! Calls to one target whose port fails one send: which sends are told to the call, and what it does then (RFC 3261 sections
 //! 16.9 and 17.1.4).
 
-use crate::histories::playing::{Entry, Posted, Sent, has_entries, is_sent, opened, taken};
-use crate::histories::texts::{
+use crate::histories::playing::{Entry, Posted, has_entries, opened, taken};
+use crate::holds::holds;
+use crate::requests::SETUP;
+use call_messages::one_target::{
     ACK_SENT, CALLER, CANCEL, CANCEL_OK, CANCEL_SENT, FAULT_UP, INVITE, INVITE_SENT, OPTIONS,
     OPTIONS_FAULT_UP, OPTIONS_NOT_FOUND, OPTIONS_NOT_FOUND_UP, OPTIONS_RINGING, OPTIONS_RINGING_UP,
     OPTIONS_SENT, RINGING, RINGING_UP, TARGET, TERMINATED, TERMINATED_UP, TRYING,
 };
-use crate::holds::holds;
-use crate::requests::SETUP;
+use call_messages::{Sent, is_sent};
 use fork_call::{Call, Datagram, Port, Taken, carry};
 use fork_context::{Choice, Up};
 use sip_uri::Hop;

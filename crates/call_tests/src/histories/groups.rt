@@ -1,8 +1,9 @@
 //! A call to three groups of targets, one after another, the second of which is one target that answers with two contacts
 //! (RFC 3261 sections 16.5 to 16.7).
-use crate::histories::playing::{Entry, Moment, Posted, Sent, Turn, goes_so};
-use crate::histories::texts::{CALLER, INVITE, TRYING};
+use crate::histories::playing::{Entry, Moment, Posted, Turn, goes_so};
 use crate::holds::holds;
+use call_messages::Sent;
+use call_messages::one_target::{CALLER, INVITE, TRYING};
 use fork_call::{Cause, Taken};
 use fork_context::{Choice, Up};
 use sip_uri::{Hop, Transport};

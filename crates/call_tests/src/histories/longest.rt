@@ -1,11 +1,12 @@
 //! Calls whose branches have a longest time (RFC 3261 sections 16.6 step 11, 16.7 step 2 and 16.8).
-use crate::histories::playing::{Moment, Sent, Turn, goes_by};
-use crate::histories::texts::{
+use crate::histories::playing::{Moment, Turn, goes_by};
+use crate::holds::holds;
+use crate::requests::setup_of;
+use call_messages::Sent;
+use call_messages::one_target::{
     ACK_SENT, CANCEL_SENT, CANCEL_TAKEN, INVITE, INVITE_SENT, RINGING, RINGING_UP, TARGET,
     TERMINATED, TRYING,
 };
-use crate::holds::holds;
-use crate::requests::setup_of;
 use fork_call::{Cause, Setup, Taken};
 use sip_uri::{Hop, Transport};
 use std::alloc::Global;

@@ -2,14 +2,14 @@
 use crate::histories::playing::{
     Entry, Moment, Posted, Turn, goes_so, has_entries, opened, plays, taken,
 };
-use crate::histories::texts::{
+use crate::holds::holds;
+use crate::requests::SETUP;
+use call_messages::one_target::{
     ACK, ACK_SENT, CALLER, CANCEL, CANCEL_OK, CANCEL_SENT, CANCEL_TAKEN, INVITE, INVITE_SENT,
     NOT_FOUND, NOT_FOUND_UP, OPTIONS, OPTIONS_NOT_FOUND, OPTIONS_NOT_FOUND_OF_FIVE,
     OPTIONS_NOT_FOUND_UP, OPTIONS_SENT, RINGING, RINGING_UP, TARGET, TERMINATED, TERMINATED_UP,
     TRYING,
 };
-use crate::holds::holds;
-use crate::requests::SETUP;
 use fork_call::{Call, TakeFault, Taken};
 use fork_context::{Choice, Up};
 use std::alloc::Global;

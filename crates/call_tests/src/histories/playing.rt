@@ -1,18 +1,11 @@
 //! Histories of a call: what comes to it moment by moment, and what it does then.
 use crate::requests::{SOURCE, read_message, setup_of};
+use call_messages::{Sent, is_sent};
 use call_routing::is_openable;
-use fork_call::{Call, Cause, Datagram, Setup, Step, TakeFault, Taken};
+use fork_call::{Call, Cause, Setup, Step, TakeFault, Taken};
 use fork_context::{Event, Reply, Up};
 use sip_uri::Hop;
-use std::alloc::{AllocError, Allocator, Global};
-
-/// A datagram that a call sends.
-#[derive(Clone, Copy)]
-pub struct Sent {
-    pub cause: Cause,
-    pub to: Hop,
-    pub text: &'static [u8],
-}
+use std::alloc::{AllocError, Global};
 
 /// What happens to a call, and what comes of it.
 #[derive(Clone, Copy)]
@@ -71,13 +64,6 @@ pub fn taken(
         Some(message) => Some(call.take(message, from, now)),
         None => None,
     }
-}
-
-/// Whether a datagram is this one.
-pub fn is_sent<A: Allocator>(datagram: &Datagram<A>, wanted: &Sent) -> bool {
-    datagram.cause == wanted.cause
-        && datagram.to == wanted.to
-        && datagram.bytes.as_slice() == wanted.text
 }
 
 /// Whether a step sends this datagram.

@@ -1,11 +1,12 @@
 //! What the CANCEL of a branch says of why it is sent, by what closed the table (RFC 3326): a 2xx, a 6xx, or the caller's CANCEL;
 //! and nothing where timer C fired.
-use crate::histories::playing::{Moment, Sent, Turn, goes_by};
-use crate::histories::texts::{
-    CALLER, CANCEL, CANCEL_OK, CANCEL_SENT, INVITE, RINGING, RINGING_UP, TARGET, TRYING,
-};
+use crate::histories::playing::{Moment, Turn, goes_by};
 use crate::holds::holds;
 use crate::requests::{SETUP, setup_of};
+use call_messages::Sent;
+use call_messages::one_target::{
+    CALLER, CANCEL, CANCEL_OK, CANCEL_SENT, INVITE, RINGING, RINGING_UP, TARGET, TRYING,
+};
 use fork_call::{Cause, Taken};
 use sip_uri::{Hop, Transport};
 use std::alloc::Global;

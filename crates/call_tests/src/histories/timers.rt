@@ -1,12 +1,13 @@
 //! Calls to one target that falls silent: what is sent again, and when the branch ends (RFC 3261 sections 16.6, 16.8, 17.1.1
 //! and 17.1.2).
-use crate::histories::playing::{Entry, Moment, Posted, Sent, Turn, goes_so};
-use crate::histories::texts::{
+use crate::histories::playing::{Entry, Moment, Posted, Turn, goes_so};
+use crate::holds::holds;
+use crate::requests::SETUP;
+use call_messages::Sent;
+use call_messages::one_target::{
     CALLER, CANCEL_SENT, INVITE, INVITE_SENT, OPTIONS, OPTIONS_SENT, RINGING, RINGING_UP, TARGET,
     TRYING,
 };
-use crate::holds::holds;
-use crate::requests::SETUP;
 use fork_call::{Cause, Taken};
 use fork_context::{Choice, Up};
 

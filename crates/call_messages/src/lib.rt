@@ -1,0 +1,8 @@
+//! The messages of calls, byte for byte, that several crates of tests play: what a call takes, and what it sends.
+#![tactic(auto)]
+
+pub mod one_target;
+pub mod redirecting;
+mod sent;
+
+pub use sent::{Sent, is_sent};
