@@ -1,5 +1,5 @@
 -- What is printed of a run of workers, in steps, and why there is no run.
-use Rattle.std.proofs.Common.{◌≡◌, ◌≤◌, ℕ, true, false, List, [], ◌++◌, length, Err, refl, sym, ap, subst, ◌∙◌, append_assoc}
+use Rattle.std.proofs.Common.{◌≡◌, ◌≢◌, ◌≤◌, ℕ, true, false, List, [], ◌++◌, length, Err, refl, sym, ap, subst, ◌∙◌, append_assoc}
 use Rattle.std.specs.Prelude.{◌↔◌, IsErrOf}
 use Rattle.fork_model.specs.Table.{Table, most_targets, is_finished, is_succeeded}
 use Rattle.fork_model.specs.Challenges.{challenge_list}
@@ -26,7 +26,10 @@ use Rattle.fork_drive.specs.Run.{IsPrinted, posts_text}
 use Rattle.fork_drive.specs.Headline.{IsDone}
 use Rattle.fork_drive.specs.inner.FaultView.{fault_driven}
 use Rattle.fork_drive.specs.inner.Faults.{IsFirstFault}
-use Rattle.fork_drive.specs.Faults.{IsFork, IsRunFault}
+use Rattle.fork_drive.specs.Faults.{IsFork, IsRunFault, IsDriveFault}
+use Rattle.fork_drive.specs.TornBooks.{IsTrueDriveFault, IsTrueRunFault, told}
+use Rattle.fork_drive.specs.declared.fault.RunFault.{RunFault}
+use Rattle.fork_drive.specs.declared.fault.RunFault.TheVariants as whole
 
 pub is_fork : (targets : List Target) → (targets ≡ [] → ⊥) → (IsTooMany targets → ⊥) → ((length targets ≤ most_targets) × HasTwice targets → ⊥) → IsFork targets
 is_fork targets none many twice setup.NoTargets is = none is
@@ -54,20 +57,34 @@ first_run_refused workers targets prog.Stopped same is = absurd is
 first_run_refused workers targets prog.Torn same is = absurd is
 first_run_refused workers targets prog.NoMemory same is = tt
 
+-- no text is torn before its workers run
+pub first_not_torn : (targets : List Target) (fault : ProgFault) → IsFirstFault targets fault → fault ≢ prog.Torn
+first_not_torn targets prog.TooLong is e = absurd is
+first_not_torn targets (prog.Line number) is e = absurd is
+first_not_torn targets (prog.New fault) is e = absurd cc
+first_not_torn targets prog.Stopped is e = absurd is
+first_not_torn targets prog.Torn is e = absurd is
+first_not_torn targets prog.NoMemory is e = absurd cc
+
 module _ {A : Type 0} where
   pub run_refused : (workers : Workers) (fault : DriveFault A)
       → (IsNew setup.NoTargets fault ↔ (workers.targets ≡ []))
       → (IsNew setup.TooMany fault ↔ IsTooMany workers.targets)
       → (IsNew setup.Twice fault ↔ ((length workers.targets ≤ most_targets) × HasTwice workers.targets))
       → IsTrueFault workers.kind workers.rules workers.targets workers.scripts fault
-      → IsRunFault workers (fault_driven fault)
-  run_refused workers (run.New setup.NoTargets) none many twice is = none.0 refl
-  run_refused workers (run.New setup.TooMany) none many twice is = many.0 refl
-  run_refused workers (run.New setup.Twice) none many twice is = twice.0 refl
-  run_refused workers (run.New setup.NoMemory) none many twice is = tt
-  run_refused workers run.Full none many twice is = (is_fork workers.targets none.1 many.1 twice.1, is)
-  run_refused workers run.NoMemory none many twice is = tt
-  run_refused workers (run.Torn book) none many twice is = is_fork workers.targets none.1 many.1 twice.1
+      → IsTrueRunFault workers (fault_driven fault)
+  run_refused workers (run.New setup.NoTargets) none many twice is = (none.0 refl, λ e. absurd cc)
+  run_refused workers (run.New setup.TooMany) none many twice is = (many.0 refl, λ e. absurd cc)
+  run_refused workers (run.New setup.Twice) none many twice is = (twice.0 refl, λ e. absurd cc)
+  run_refused workers (run.New setup.NoMemory) none many twice is = (tt, λ e. absurd cc)
+  run_refused workers run.Full none many twice is = ((is_fork workers.targets none.1 many.1 twice.1, is), λ e. absurd cc)
+  run_refused workers run.NoMemory none many twice is = (tt, λ e. absurd cc)
+  run_refused workers (run.Torn book) none many twice is = (is_fork workers.targets none.1 many.1 twice.1, is)
+
+  -- what the program says of a fault is so
+  pub told_so : (text : List ℕ) (fault : RunFault A) → IsTrueDriveFault text fault → IsDriveFault text (told fault)
+  told_so text (whole.Text fault) is = is.0
+  told_so text (whole.Torn book) is = (is.0, is.1, is.2, is.3.0)
 
 -- an opening line, a line for each event and the last lines are what is printed of a log
 pub is_printed : (log : Log) (core : Core) (first : Table) (empty begun told whole : List ℕ) → core ≡ core_of log → first ≡ log.opening → empty ≡ []

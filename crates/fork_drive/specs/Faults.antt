@@ -18,9 +18,9 @@ use Rattle.fork_drive.specs.Headline.{IsDone}
 abbrev pub IsFork : List Target → Type 0
 IsFork targets = (fault : NewFault) → IsSetupFault targets fault → ⊥
 
--- stopped only where the workers have more events than a context takes whatever they are. Of a torn run no more can be said here: its book
--- is gone, and there is always some book that is none of these workers'. `drive` of `fork_engine` says it of the book that it
--- hands out (`IsTorn`).
+-- what the program says: stopped only where the workers have more events than a context takes whatever they are. Of a torn run the
+-- program says no more, since its book is gone, and there is always some book that is none of these workers'; `drive_text` hands the
+-- book out, and says of it what it is (`IsTrueDriveFault`).
 abbrev pub IsRunFault : Workers → ProgFault → Type 0
 IsRunFault workers prog.TooLong = ⊥
 IsRunFault workers (prog.Line number) = ⊥

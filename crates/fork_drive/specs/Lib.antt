@@ -4,5 +4,6 @@ pub mod Spelling
 pub mod Malformed
 pub mod Run
 pub mod Faults
+pub mod TornBooks
 pub mod Headline
 pub mod Asked

@@ -33,7 +33,8 @@ impl Asked {
     ///
     /// # Errors
     ///
-    /// Those of `drive_text` and of `Command::run`. After each `out` is as it was.
+    /// Those of `drive_text`, of which `Torn` is told without its book, and of `Command::run`. After each `out` is as it was.
+    #[tactic(auto, using(crate::proofs::Running::told_so))]
     pub fn run<A: Allocator + Clone + Send + Sync, R: Threads + Wait + Sync>(
         self,
         rt: &R,
@@ -46,7 +47,10 @@ impl Asked {
         ensures err { OnErr result (out.new.items ≡ out.old.items) }
     {
         match self {
-            Asked::Drive => drive_text(rt, alloc, text, out),
+            Asked::Drive => match drive_text(rt, alloc, text, out) {
+                Ok(status) => Ok(status),
+                Err(fault) => Err(fault.told()),
+            },
             Asked::Alone(command) => command.run(alloc, text, out),
         }
     }

@@ -4,9 +4,11 @@
 #![tactic(auto)]
 
 mod asked;
+mod fault;
 mod print;
 mod run;
 mod workers;
 
 pub use asked::Asked;
+pub use fault::RunFault;
 pub use run::drive_text;

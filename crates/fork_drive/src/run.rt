@@ -6,11 +6,14 @@ ghost use Rattle.fork_program.specs.Faults.{most_text};
 ghost use Rattle.fork_program.specs.Replay.{opening_text};
 ghost use Rattle.fork_text.specs.RuleLines.{ended};
 ghost use Rattle.fork_drive.specs.Workers.{Workers};
-ghost use Rattle.fork_drive.specs.Faults.{IsRunFault, IsDriveFault, PrintsRun, AppendsRun};
+ghost use Rattle.fork_drive.specs.Faults.{PrintsRun, AppendsRun};
+ghost use Rattle.fork_drive.specs.TornBooks.{IsTrueDriveFault, IsTrueRunFault};
 ghost use Rattle.fork_drive.specs.inner.Faults.{IsFirstFault};
 ghost use Rattle.fork_drive.specs.Headline.{AppendsOneFinal, AppendsNoFinal};
 ghost use Rattle.fork_drive.specs.inner.FaultView.{fault_driven};
+ghost use Rattle.fork_drive.specs.declared.fault.RunFault.TheVariants as run;
 
+use crate::fault::RunFault;
 use crate::print::append_posts;
 use crate::workers::Workers;
 use context_values::copied_targets;
@@ -51,15 +54,15 @@ fn append_first<A: Allocator + Clone>(
     Ok(())
 }
 
-/// The program's fault for that of a run.
-fn fault_of<A: Allocator + Clone>(fault: DriveFault<A>) -> ProgFault
+/// The fault of the text for that of a run.
+fn fault_of<A: Allocator + Clone>(fault: DriveFault<A>) -> RunFault<A>
     ensures { result ≡ fault_driven fault }
 {
     match fault {
-        DriveFault::New(fault) => ProgFault::from(fault),
-        DriveFault::Full => ProgFault::Stopped,
-        DriveFault::NoMemory => ProgFault::NoMemory,
-        DriveFault::Torn(_) => ProgFault::Torn,
+        DriveFault::New(fault) => RunFault::Text(ProgFault::from(fault)),
+        DriveFault::Full => RunFault::Text(ProgFault::Stopped),
+        DriveFault::NoMemory => RunFault::Text(ProgFault::NoMemory),
+        DriveFault::Torn(book) => RunFault::Torn(book),
     }
 }
 
@@ -68,9 +71,9 @@ fn printed<A: Allocator + Clone + Send + Sync, R: Threads + Wait + Sync>(
     rt: &R,
     alloc: &A,
     workers: Workers<A>,
-) -> Result<Vec<u8, A>, ProgFault>
+) -> Result<Vec<u8, A>, RunFault<A>>
     ensures ok { IfOk result (λ text. PrintsRun workers text.items) }
-    ensures fault { IfErr result (IsRunFault workers) }
+    ensures fault { IfErr result (IsTrueRunFault workers) }
 {
     replays_are_answered_yes();
     let Workers {
@@ -106,28 +109,31 @@ fn printed<A: Allocator + Clone + Send + Sync, R: Threads + Wait + Sync>(
 ///
 /// In this order: `TooLong` over `MOST_TEXT` bytes; `Line` with the first malformed line; `New` where the targets are no
 /// fork; `Stopped` where the workers together have more than 4,096 events and one of them met a full context. `NoMemory` where a growth
-/// was refused; `Torn` where the book is not one of this fork, or its history no order of the script's events (as
+/// was refused; `Torn` with the book, where that is not one of this fork, or its history no order of the script's events (as
 /// [`fork_engine::drive`] compares them).
 pub fn drive_text<A: Allocator + Clone + Send + Sync, R: Threads + Wait + Sync>(
     rt: &R,
     alloc: A,
     text: &[u8],
     out: &mut Vec<u8, A>,
-) -> Result<u8, ProgFault>
+) -> Result<u8, RunFault<A>>
     ensures status { IfOk result (λ status. status ≡ 0) }
     ensures driven { OnOk result (AppendsRun text.now out.old.items out.new.items) }
     ensures one_final { OnOk result (AppendsOneFinal text.now out.old.items out.new.items) }
     ensures no_final { OnOk result (AppendsNoFinal text.now out.old.items out.new.items) }
-    ensures fault { IfErr result (IsDriveFault text.now) }
-    ensures too_long { IsErrOf result ProgFault.TooLong ↔ (most_text < length text.now) }
+    ensures fault { IfErr result (IsTrueDriveFault text.now) }
+    ensures too_long { IsErrOf result (run.Text ProgFault.TooLong) ↔ (most_text < length text.now) }
     ensures err { OnErr result (out.new.items ≡ out.old.items) }
 {
     the_choice_is_listed_first();
     exactly_one_final();
     if text.len() > MOST_TEXT {
-        return Err(ProgFault::TooLong);
+        return Err(RunFault::Text(ProgFault::TooLong));
     }
-    let workers = Workers::read(&alloc, text)?;
+    let workers = match Workers::read(&alloc, text) {
+        Ok(workers) => workers,
+        Err(fault) => return Err(RunFault::Text(ProgFault::from(fault))),
+    };
     let printed = printed(rt, &alloc, workers)?;
     out.extend_from_slice(&printed)?;
     Ok(0)

@@ -19,8 +19,10 @@ pub fn driven<R: Threads + Wait + Sync>(
     script: &[u8],
 ) -> Result<(u8, Vec<u8>), ProgFault> {
     let mut out = Vec::new(alloc);
-    let status = drive_text(rt, alloc, script, &mut out)?;
-    Ok((status, out))
+    match drive_text(rt, alloc, script, &mut out) {
+        Ok(status) => Ok((status, out)),
+        Err(fault) => Err(fault.told()),
+    }
 }
 
 /// Why a script with workers is refused, if it is, and whether the output is then as it was.
@@ -30,7 +32,10 @@ fn refusal<R: Threads + Wait + Sync>(
     script: &[u8],
 ) -> Result<(Option<ProgFault>, bool), AllocError> {
     let mut out = b"before".to_vec(alloc)?;
-    let fault = drive_text(rt, alloc, script, &mut out).err();
+    let fault = match drive_text(rt, alloc, script, &mut out) {
+        Ok(_) => None,
+        Err(fault) => Some(fault.told()),
+    };
     Ok((fault, is_text(&out, "before")))
 }
 

@@ -7,7 +7,7 @@ use Rattle.fork_drive.proofs.run.drive_text.Goals as goal
 
 pub returns-clause-one_final : goal.returns-clause-one_final
 returns-clause-one_final g c workers log printed read run told spelled done =
-    let same : c.in_ok-workers.workers ≡ workers = sym (ok_is (c.in_ok-workers.ensures.only workers read)) in
+    let same : c.in-Ok.workers ≡ workers = sym (ok_is (c.in-Ok.ensures.only workers read)) in
     let P : Workers → Type 0 = λ w. IsFork w.targets in
     tells_one_final c.the_choice_is_listed_first.ensures c.exactly_one_final.ensures.exactly_one workers log printed
     (subst P same c.in_ok-printed.ensures.ok.fork) run told done

@@ -3,10 +3,10 @@ use Rattle.std.proofs.lemmas.Result.{err_from_is_err_and}
 use Rattle.fork_model.specs.History.{Target, opening}
 use Rattle.context_values.specs.EventView.{event_of}
 use Rattle.fork_rank.specs.KindView.{kind_of}
-use Rattle.fork_program.specs.declared.fault.ProgFault.{ProgFault}
 use Rattle.fork_drive.specs.Workers.{Workers}
 use Rattle.fork_drive.specs.Faults.{IsRunFault, PrintsRun}
-use Rattle.fork_drive.proofs.Running.{is_fork, first_run_refused, run_refused, is_printed, run_ends_right}
+use Rattle.fork_drive.specs.TornBooks.{IsTrueRunFault}
+use Rattle.fork_drive.proofs.Running.{is_fork, first_not_torn, first_run_refused, run_refused, is_printed, run_ends_right}
 use Rattle.fork_drive.proofs.run.printed.Goals as goal
 
 pub returns-in_ok-append_ending-in-Ok-clause-ok : goal.returns-in_ok-append_ending-in-Ok-clause-ok
@@ -32,9 +32,8 @@ returns-in-Err-clause-fault g c =
     let inside = c.workers.inside in
     let shown : Workers = record { kind = kind_of inside.kind; rules = inside.rules; targets = inside.targets.items; scripts = map (λ s. map event_of s.items) inside.scripts.items } in
     let right = run_refused shown c.in-Err.fault c.in-Err.ensures.none c.in-Err.ensures.many c.in-Err.ensures.twice c.in-Err.ensures.fault in
-    let P : Workers → Type 0 = λ w. IsRunFault w c.fault_of.result in
-    let Q : ProgFault → Type 0 = IsRunFault shown in
-    subst P c.workers.view_is (subst Q (sym c.fault_of.ensures) right)
+    let P : Workers → Type 0 = λ w. IsTrueRunFault w c.fault_of.result in
+    subst P c.workers.view_is (subst (IsTrueRunFault shown) (sym c.fault_of.ensures) right)
 
 pub returns-in_err-append_first-clause-fault : goal.returns-in_err-append_first-clause-fault
 returns-in_err-append_first-clause-fault g c =
@@ -45,9 +44,10 @@ returns-in_err-append_first-clause-fault g c =
     let is : P c.args.workers =
     subst P c.workers.view_is (first_run_refused shown c.deref.result.now c.in_err-append_first.field-0.0 c.deref.ensures.value c.in_err-append_first.ensures.fault)
     in
-    rw (p.1, p.2) is
+    let fault = c.in_err-append_first.field-0.0 in
+    rw (p.1, p.2) (is, first_not_torn c.deref.result.now fault c.in_err-append_first.ensures.fault)
 
 pub returns-in_err-append_ending-in-Ok-clause-fault : goal.returns-in_err-append_ending-in-Ok-clause-fault
 returns-in_err-append_ending-in-Ok-clause-fault g c =
     let p = err_from_is_err_and c.from_residual-in_err-append_ending-in-Ok.result c.from_residual-in_err-append_ending-in-Ok.ensures.1 in
-    rw (p.1, p.2) tt
+    rw (p.1, p.2) (tt, λ e. absurd cc)
