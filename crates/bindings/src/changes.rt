@@ -24,6 +24,26 @@ pub(crate) fn made<A: Allocator + Clone>(
     Ok(made)
 }
 
+/// Copies of the bindings that are there at a moment, in their order, with room for so many more.
+pub(crate) fn copied_there<A: Allocator + Clone>(
+    alloc: A,
+    moment: u64,
+    bindings: &[Binding<A>],
+    more: usize,
+) -> Result<Vec<Binding<A>, A>, AllocError>
+    ensures items { IfOk result (λ v. v.items ≡ there moment bindings.now) }
+    ensures room { IfOk result (λ v. vec_len v + more ≤ vec_capacity v) }
+{
+    let mut copies = Vec::new(alloc.clone()?);
+    for binding in bindings {
+        if binding.is_there(moment) {
+            copies.push(binding.copied(alloc.clone()?)?)?;
+        }
+    }
+    copies.reserve(more)?;
+    Ok(copies)
+}
+
 /// Lets go the bindings that have ended.
 pub(crate) fn keep_there<A: Allocator>(moment: u64, bindings: &mut Vec<Binding<A>, A>)
     ensures items { bindings.new.items ≡ there moment bindings.old.items }
