@@ -11,8 +11,7 @@ ghost use Rattle.admission.specs.SeenDecision.{seen_admission, seen_decision};
 use crate::dialog::is_of_dialog;
 use crate::sender::{claims_domain, is_from};
 use authentication::{
-    Answer, Challenger, Domain, Realm, Standing, is_of_domain, party_uri,
-    standing_of, turned_away,
+    Answer, Challenger, Domain, Realm, Standing, is_of_domain, party_uri, standing_of, turned_away,
 };
 use sip_build::OwnStatus;
 use sip_route::request_uri;

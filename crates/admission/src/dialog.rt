@@ -66,13 +66,7 @@ fn token_of(value: &[u8]) -> Option<&[u8]>
 }
 
 /// Whether a value names the proxy, with a token that is good for this Call-ID.
-fn is_own_with_token(
-    secret: &[u8; 32],
-    own: Own,
-    second: u32,
-    call_id: &[u8],
-    value: &[u8],
-) -> bool
+fn is_own_with_token(secret: &[u8; 32], own: Own, second: u32, call_id: &[u8], value: &[u8]) -> bool
     ensures { IsTrue result ↔ IsOwnWithToken secret.now own second call_id.now value.now }
 {
     if !names_own(own, value) {

@@ -14,3 +14,11 @@ pub fn strangers_open_nothing_else()
     ensures { (admission : Admission) (arrival : Arrival) (m : MessageText) (decision : Decision) (rule : Rule)
         → IsDecision admission arrival m decision → decision ≡ Opens rule → arrival.trusted ≡ false → MayOpen admission arrival m rule }
 {}
+
+/// A request is decided in one way alone: of the rows, in their order, one holds.
+///
+/// A law over the definitions, with nothing to run.
+pub fn requests_are_decided_in_one_way()
+    ensures { (admission : Admission) (arrival : Arrival) (m : MessageText) (decision other : Decision)
+        → IsDecision admission arrival m decision → IsDecision admission arrival m other → decision ≡ other }
+{}

@@ -10,5 +10,5 @@ mod sender;
 
 pub use decision::{Admission, Arrival, Decision, Rule, decision_of, is_for_registrar};
 pub use dialog::is_of_dialog;
-pub use law::strangers_open_nothing_else;
+pub use law::{requests_are_decided_in_one_way, strangers_open_nothing_else};
 pub use own_credentials::is_taken_off;

@@ -1,2 +1,4 @@
 pub mod Pieces
 pub mod Values
+pub mod Verdicts
+pub mod Once

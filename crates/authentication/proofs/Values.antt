@@ -40,9 +40,9 @@ unfolding encode_with
 hex-line [] = refl
 hex-line (b ∷ bytes) = grind (arith, passes-at is_line_byte lower_digits, and_both, hex-line bytes)
 
-pub nonce-line : (secret address : List ℕ) (second : ℕ) → is_line (nonce_text secret address second) ≡ true
+pub nonce_line : (secret address : List ℕ) (second : ℕ) → is_line (nonce_text secret address second) ≡ true
 unfolding digest_text
-nonce-line secret address second =
+nonce_line secret address second =
     line-append (second_text second) (take 32 (seal_text secret (codes "n") second address)) (hex-line (to_be_bytes w32 second))
     (passes-take is_line_byte 32 (seal_text secret (codes "n") second address) (hex-line (sha256 (secret ++ codes "n" ++ second_text second ++ address))))
 
@@ -87,7 +87,7 @@ challenge-value realm nonce algorithm stale r n =
     let behind_middle = line-append middle (nonce ++ tail) refl (line-append nonce tail n (tail-line algorithm stale)) in
     value-from whole (line-append front (realm ++ (middle ++ (nonce ++ tail))) refl (line-append realm (middle ++ (nonce ++ tail)) r behind_middle)) refl is.ends
 
-pub challenge-header : (challenger : Challenger) (realm nonce : List ℕ) (stale : Bool) (algorithm : Algorithm) → list_all is_realm_byte realm ≡ true → is_line nonce ≡ true
+pub challenge_header : (challenger : Challenger) (realm nonce : List ℕ) (stale : Bool) (algorithm : Algorithm) → list_all is_realm_byte realm ≡ true → is_line nonce ≡ true
     → is_header (challenge_line challenger realm nonce stale algorithm) ≡ true
-challenge-header Server realm nonce stale algorithm r n = challenge-value realm nonce algorithm stale (realm-line realm r) n
-challenge-header Proxy realm nonce stale algorithm r n = challenge-value realm nonce algorithm stale (realm-line realm r) n
+challenge_header Server realm nonce stale algorithm r n = challenge-value realm nonce algorithm stale (realm-line realm r) n
+challenge_header Proxy realm nonce stale algorithm r n = challenge-value realm nonce algorithm stale (realm-line realm r) n

@@ -18,10 +18,7 @@ fn append_dotted<B: Allocator>(out: &mut Vec<u8, B>, n: u8) -> Result<(), AllocE
 /// # Errors
 ///
 /// Only where the growth of `out` is refused; some of the text may be there then.
-pub fn append_address<B: Allocator>(
-    out: &mut Vec<u8, B>,
-    addr: [u8; 4],
-) -> Result<(), AllocError>
+pub fn append_address<B: Allocator>(out: &mut Vec<u8, B>, addr: [u8; 4]) -> Result<(), AllocError>
     ensures { OnOk result (out.new.items ≡ out.old.items ++ address_text addr) }
 {
     append_decimal(out, u64::from(addr[0]))?;

@@ -8,10 +8,7 @@ use sip_uri::{SipUri, UriFault};
 use std::alloc::{AllocError, Allocator};
 
 /// The URI that a text spells, if it spells one.
-fn uri_if_read<A: Allocator + Clone>(
-    alloc: A,
-    text: &[u8],
-) -> Result<Option<SipUri<A>>, AllocError>
+fn uri_if_read<A: Allocator + Clone>(alloc: A, text: &[u8]) -> Result<Option<SipUri<A>>, AllocError>
     ensures { IfOk result (λ uri. uri ≡ uri_if_read (read_uri text.now)) }
 {
     match SipUri::read(alloc, text) {

@@ -21,6 +21,7 @@ use sip_digest::{Algorithm, append_challenge, append_nonce};
 use std::alloc::{AllocError, Allocator};
 
 /// Adds a challenge by an algorithm.
+#[tactic(auto, using(crate::proofs::Values::challenge_header))]
 fn add_challenge<A: Allocator + Clone, U: Allocator>(
     alloc: A,
     answer: &mut Answer<A>,
@@ -39,6 +40,7 @@ fn add_challenge<A: Allocator + Clone, U: Allocator>(
 }
 
 /// A new nonce for an address.
+#[tactic(auto, using(crate::proofs::Values::nonce_line))]
 fn nonce_for<A: Allocator + Clone, U: Allocator>(
     alloc: A,
     realm: &Realm<'_, U>,
@@ -68,7 +70,15 @@ fn challenged<A: Allocator + Clone, U: Allocator>(
     let nonce = nonce_for(alloc.clone()?, realm, addr, second)?;
     let mut answer = Answer::new(alloc.clone()?, challenger.status());
     let first = realm.algorithms.first();
-    add_challenge(alloc.clone()?, &mut answer, challenger, realm, &nonce, stale, first)?;
+    add_challenge(
+        alloc.clone()?,
+        &mut answer,
+        challenger,
+        realm,
+        &nonce,
+        stale,
+        first,
+    )?;
     match realm.algorithms.second() {
         None => Ok(answer),
         Some(other) => {

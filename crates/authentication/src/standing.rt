@@ -42,14 +42,19 @@ fn verdict<A: Allocator + Clone, U: Allocator + Clone>(
     ensures { IfOk result (λ verdict. IsVerdictOn (seen_realm realm.now) (asked_as asked.now) (seen_credentials credentials.now) verdict) }
 {
     let secrets = realm.users.secrets(credentials.username.as_slice());
-    verdict_of(
+    let verdict = verdict_of(
         alloc,
         realm.secret,
         realm.algorithms,
         secrets,
         asked,
         credentials,
-    )
+    )?;
+    match verdict {
+        Verdict::Right => Ok(Verdict::Right),
+        Verdict::Stale => Ok(Verdict::Stale),
+        Verdict::Wrong => Ok(Verdict::Wrong),
+    }
 }
 
 /// What credentials of the realm are worth.
@@ -90,11 +95,7 @@ fn judged<'a, A: Allocator + Clone, U: Allocator + Clone>(
 }
 
 /// The request that credentials came with.
-fn asked_of<'a, M: Allocator>(
-    message: &'a Message<M>,
-    address: &'a [u8],
-    second: u32,
-) -> Asked<'a>
+fn asked_of<'a, M: Allocator>(message: &'a Message<M>, address: &'a [u8], second: u32) -> Asked<'a>
     ensures { asked_as result ≡ arrival_of message.now address.now second }
 {
     Asked {

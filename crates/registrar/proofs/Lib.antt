@@ -1,1 +1,3 @@
 pub mod Contacts
+pub mod Values
+pub mod Passwords

@@ -9,7 +9,7 @@ ghost use Rattle.authentication.specs.Noted.{noted};
 ghost use Rattle.authentication.specs.SeenRealm.{realm_if_any};
 ghost use Rattle.authentication.specs.SeenStanding.{seen_standing};
 ghost use Rattle.authentication.specs.Standing as known;
-ghost use Rattle.registrar.specs.Asking.{IsAsking, asked_by, asks_extension, extension_answer, is_users, registration_of, terms_of, user_of, user_of_domain};
+ghost use Rattle.registrar.specs.Asking.{IsAsking, IsAskingFor, IsAskingIf, asked_by, asks_extension, extension_answer, is_users, registration_of, terms_of, user_of, user_of_domain};
 ghost use Rattle.registrar.specs.SeenAsking.{seen_asking, seen_registration};
 ghost use Rattle.registrar.specs.SeenTerms.{seen_terms};
 
@@ -18,8 +18,7 @@ use crate::contacts::{Contacts, contacts_of};
 use crate::expirations::Expirations;
 use crate::source::Source;
 use authentication::{
-    Answer, Challenger, Domain, Realm, Standing, is_of_domain, party_uri,
-    standing_of, turned_away,
+    Answer, Challenger, Domain, Realm, Standing, is_of_domain, party_uri, standing_of, turned_away,
 };
 use sip_build::OwnStatus;
 use sip_route::append_request_key;
@@ -256,6 +255,41 @@ fn asked_for_user<'a, M: Allocator, A: Allocator + Clone, U: Allocator + Clone>(
     Ok(asked)
 }
 
+/// What becomes of a request that asks for no extension, whose To names this user of the domain, or none.
+fn asking_for<'a, M: Allocator, A: Allocator + Clone, U: Allocator + Clone>(
+    alloc: &A,
+    registrar: &Registrar<'_, U>,
+    source: Source,
+    message: &'a Message<M>,
+    user: Option<Vec<u8, A>>,
+) -> Result<Asking<'a, A>, AllocError>
+    ensures { IfOk result (λ asked. IsAskingFor registrar.now.domain (realm_if_any registrar.now.realm) registrar.now.expirations source message.now (option_map (λ u. u.items) user) (seen_asking asked)) }
+{
+    match user {
+        None => Ok(Asking::Turned(Answer::new(alloc.clone()?, OwnStatus::NotFound), None)),
+        Some(user) => asked_for_user(alloc, registrar, source, message, user),
+    }
+}
+
+/// What becomes of a request, which asks for an extension or not.
+fn asking_if<'a, M: Allocator, A: Allocator + Clone, U: Allocator + Clone>(
+    alloc: &A,
+    registrar: &Registrar<'_, U>,
+    source: Source,
+    message: &'a Message<M>,
+    extension: bool,
+) -> Result<Asking<'a, A>, AllocError>
+    ensures { IfOk result (λ asked. IsAskingIf extension registrar.now.domain (realm_if_any registrar.now.realm) registrar.now.expirations source message.now (seen_asking asked)) }
+{
+    if extension {
+        let answer = extension_answer(alloc, message)?;
+        return Ok(Asking::Turned(answer, None));
+    }
+    let user = user_of(alloc, &registrar.domain, message)?;
+    let asked = asking_for(alloc, registrar, source, message, user)?;
+    Ok(asked)
+}
+
 /// What a REGISTER request of the domain asks for, or how it is answered before that is looked at (RFC 3261 section 10.3 steps 1 to 5), in
 /// this order: 420 where it has a Require; 404 where To names no user of the domain; and, where the source is not inside, 400, 403 or 401
 /// where its credentials do not do, and 403 where there is no realm. No binding is looked at. Its top Via value has to be readable, with a
@@ -272,15 +306,7 @@ pub fn asking_of<'a, M: Allocator, A: Allocator + Clone, U: Allocator + Clone>(
 ) -> Result<Asking<'a, A>, AllocError>
     ensures { IfOk result (λ asked. IsAsking registrar.now.domain (realm_if_any registrar.now.realm) registrar.now.expirations source message.now (seen_asking asked)) }
 {
-    if asks_extension(message) {
-        let answer = extension_answer(&alloc, message)?;
-        return Ok(Asking::Turned(answer, None));
-    }
-    match user_of(&alloc, &registrar.domain, message)? {
-        None => Ok(Asking::Turned(
-            Answer::new(alloc, OwnStatus::NotFound),
-            None,
-        )),
-        Some(user) => asked_for_user(&alloc, registrar, source, message, user),
-    }
+    let extension = asks_extension(message);
+    let asked = asking_if(&alloc, registrar, source, message, extension)?;
+    Ok(asked)
 }

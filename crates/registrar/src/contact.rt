@@ -52,10 +52,7 @@ fn front_of<'a>(item: &'a [u8], params: Option<&[u8]>) -> &'a [u8]
 }
 
 /// Appends the parameters but `expires`, each behind its `;`.
-fn append_kept<B: Allocator>(
-    out: &mut Vec<u8, B>,
-    params: Option<&[u8]>,
-) -> Result<(), AllocError>
+fn append_kept<B: Allocator>(out: &mut Vec<u8, B>, params: Option<&[u8]>) -> Result<(), AllocError>
     ensures { OnOk result (out.new.items ≡ out.old.items ++ kept_text (option_copied params.entry)) }
 {
     let mut params = ContactParams::of(params);
@@ -166,15 +163,7 @@ fn asked_with<'a, A: Allocator + Clone>(
     match transport_of(terms.streams, address) {
         None => Ok(None),
         Some(transport) => {
-            let asked = asked_at(
-                alloc.clone()?,
-                terms,
-                item,
-                address,
-                params,
-                uri,
-                transport,
-            )?;
+            let asked = asked_at(alloc.clone()?, terms, item, address, params, uri, transport)?;
             Ok(Some(asked))
         }
     }

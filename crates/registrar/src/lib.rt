@@ -11,6 +11,7 @@ mod contact;
 mod contacts;
 mod expirations;
 mod items;
+mod law;
 mod outcome;
 mod shown;
 mod source;
@@ -19,6 +20,7 @@ mod weight;
 
 pub use asking::{Asking, Registrar, Registration, asking_of};
 pub use expirations::Expirations;
+pub use law::bindings_need_their_users_password;
 pub use outcome::Outcome;
 pub use shown::okay;
 pub use source::Source;

@@ -91,6 +91,7 @@ fn request_with<'c, A: Allocator>(
 }
 
 /// The 423 that says how many seconds are the fewest.
+#[tactic(auto, using(crate::proofs::Values::decimal_header))]
 fn too_brief_answer<A: Allocator + Clone>(alloc: A, least: u32) -> Result<Answer<A>, AllocError>
     ensures { IfOk result (λ answer. answer ≡ too_brief_answer least) }
 {
@@ -155,9 +156,7 @@ fn outcome_by<A: Allocator + Clone>(
         Err(RegisterRefusal::TooBrief) => {
             Ok(Outcome::Refused(too_brief_answer(alloc, request.least)?))
         }
-        Err(RegisterRefusal::OutOfOrder) => {
-            Ok(refused(alloc, OwnStatus::ServerInternalError))
-        }
+        Err(RegisterRefusal::OutOfOrder) => { Ok(refused(alloc, OwnStatus::ServerInternalError)) }
         Err(RegisterRefusal::NoMemory) => Err(AllocError),
     }
 }

@@ -20,7 +20,8 @@ fn seconds_left(moment: u64, ends: u64) -> u64
 fn is_line(text: &[u8]) -> bool
     ensures { result ≡ is_line text.now }
 {
-    text.iter().all(|byte| !(*byte == b'\r') && !(*byte == b'\n'))
+    text.iter()
+        .all(|byte| !(*byte == b'\r') && !(*byte == b'\n'))
 }
 
 fn begins_with_space(text: &[u8]) -> bool
@@ -55,6 +56,7 @@ fn contact_text<A: Allocator, B: Allocator>(
 }
 
 /// Adds the line of a binding, where its item may stand in one.
+#[tactic(auto, using(crate::proofs::Values::contact_header))]
 fn add_contact<A: Allocator, B: Allocator + Clone>(
     alloc: B,
     answer: &mut Answer<B>,

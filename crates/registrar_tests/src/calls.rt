@@ -3,25 +3,33 @@ use crate::answers::Wanted;
 use crate::calling::{Decided, Row, Token, decides};
 use crate::holds::holds;
 use crate::passwords::{BOBS, Password};
-use admission::{Rule, strangers_open_nothing_else};
+use admission::{Rule, requests_are_decided_in_one_way, strangers_open_nothing_else};
 use sip_build::OwnStatus;
 
 const NOTHING: Wanted = Wanted::Lines(&[]);
 
 const FORBIDDEN: Decided = Decided::Turned(403, NOTHING, None);
 
-const CHALLENGED: Decided =
-    Decided::Turned(407, Wanted::Challenges(b"Proxy-Authenticate", false), None);
+const CHALLENGED: Decided = Decided::Turned(
+    407,
+    Wanted::Challenges(b"Proxy-Authenticate", false),
+    None,
+);
 
-const FROM_BOB: &[u8] = b"Via: SIP/2.0/UDP 198.51.100.7;branch=z9hG4bKc1\r\nFrom: Bob <sip:bob@example.com>;tag=1\r\nTo: <sip:x@203.0.113.1>\r\nCall-ID: c1\r\nCSeq: 1 INVITE\r\n";
+const FROM_BOB: &[u8] =
+    b"Via: SIP/2.0/UDP 198.51.100.7;branch=z9hG4bKc1\r\nFrom: Bob <sip:bob@example.com>;tag=1\r\nTo: <sip:x@203.0.113.1>\r\nCall-ID: c1\r\nCSeq: 1 INVITE\r\n";
 
-const FROM_NOBODY: &[u8] = b"Via: SIP/2.0/UDP 198.51.100.7;branch=z9hG4bKc2\r\nFrom: <sip:anonymous@anonymous.invalid>;tag=1\r\nTo: <sip:x@203.0.113.1>\r\nCall-ID: c2\r\nCSeq: 1 INVITE\r\n";
+const FROM_NOBODY: &[u8] =
+    b"Via: SIP/2.0/UDP 198.51.100.7;branch=z9hG4bKc2\r\nFrom: <sip:anonymous@anonymous.invalid>;tag=1\r\nTo: <sip:x@203.0.113.1>\r\nCall-ID: c2\r\nCSeq: 1 INVITE\r\n";
 
-const FROM_EVE: &[u8] = b"Via: SIP/2.0/UDP 198.51.100.7;branch=z9hG4bKc3\r\nFrom: sip:eve@elsewhere.example;tag=1\r\nTo: <sip:bob@example.com>\r\nCall-ID: c3\r\nCSeq: 1 INVITE\r\n";
+const FROM_EVE: &[u8] =
+    b"Via: SIP/2.0/UDP 198.51.100.7;branch=z9hG4bKc3\r\nFrom: sip:eve@elsewhere.example;tag=1\r\nTo: <sip:bob@example.com>\r\nCall-ID: c3\r\nCSeq: 1 INVITE\r\n";
 
-const BYE: &[u8] = b"Via: SIP/2.0/UDP 198.51.100.7;branch=z9hG4bKc4\r\nFrom: <sip:eve@elsewhere.example>;tag=1\r\nTo: <sip:bob@example.com>;tag=2\r\nCall-ID: c4\r\nCSeq: 2 BYE\r\n";
+const BYE: &[u8] =
+    b"Via: SIP/2.0/UDP 198.51.100.7;branch=z9hG4bKc4\r\nFrom: <sip:eve@elsewhere.example>;tag=1\r\nTo: <sip:bob@example.com>;tag=2\r\nCall-ID: c4\r\nCSeq: 2 BYE\r\n";
 
-const REGISTER: &[u8] = b"Via: SIP/2.0/UDP 198.51.100.7;branch=z9hG4bKc5\r\nFrom: <sip:bob@example.com>;tag=1\r\nTo: <sip:bob@example.com>\r\nCall-ID: c5\r\nCSeq: 2 REGISTER\r\n";
+const REGISTER: &[u8] =
+    b"Via: SIP/2.0/UDP 198.51.100.7;branch=z9hG4bKc5\r\nFrom: <sip:bob@example.com>;tag=1\r\nTo: <sip:bob@example.com>\r\nCall-ID: c5\r\nCSeq: 2 REGISTER\r\n";
 
 /// bob's, for a call to elsewhere.
 const PASSWORD: Password = Password {
@@ -250,6 +258,7 @@ const ROWS: &[(Row, &str)] = &[
 #[test]
 fn each_row_is_decided(rt: HostRuntime) {
     strangers_open_nothing_else();
+    requests_are_decided_in_one_way();
     for (row, what) in ROWS {
         holds(&rt, decides(rt.alloc(), true, row), what);
     }

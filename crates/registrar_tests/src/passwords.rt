@@ -75,7 +75,12 @@ pub fn line(
     method: &[u8],
 ) -> Result<Vec<u8, Global>, AllocError> {
     let mut nonce = Vec::new(alloc);
-    append_nonce(&mut nonce, &SECRET, password.address, SECOND - password.age % 1000)?;
+    append_nonce(
+        &mut nonce,
+        &SECRET,
+        password.address,
+        SECOND - password.age % 1000,
+    )?;
     let response = response(alloc, password, method, &nonce)?;
     joined(
         alloc,

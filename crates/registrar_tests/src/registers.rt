@@ -3,6 +3,7 @@ use crate::answers::Wanted;
 use crate::holds::holds;
 use crate::passwords::{BOBS, Password, QUALITY};
 use crate::registering::{DATE, Row, plays};
+use registrar::bindings_need_their_users_password;
 use sip_digest::Algorithm;
 
 const ADDRESS: ([u8; 4], u16) = ([198, 51, 100, 7], 41000);
@@ -17,39 +18,56 @@ const NOTHING: Wanted = Wanted::Lines(&[]);
 
 const DATED: Wanted = Wanted::Lines(&[(b"Date", DATE)]);
 
-const FIRST: &[u8] = b"Via: SIP/2.0/UDP 10.0.0.2:5070;branch=z9hG4bK1\r\nFrom: <sip:bob@example.com>;tag=1\r\nTo: <sip:bob@example.com>\r\nCall-ID: r1\r\nCSeq: 1 REGISTER\r\nContact: <sip:bob@10.0.0.2:5070>;expires=600\r\n";
+const FIRST: &[u8] =
+    b"Via: SIP/2.0/UDP 10.0.0.2:5070;branch=z9hG4bK1\r\nFrom: <sip:bob@example.com>;tag=1\r\nTo: <sip:bob@example.com>\r\nCall-ID: r1\r\nCSeq: 1 REGISTER\r\nContact: <sip:bob@10.0.0.2:5070>;expires=600\r\n";
 
-const SECOND_ONE: &[u8] = b"Via: SIP/2.0/UDP 10.0.0.2:5070;branch=z9hG4bK2\r\nFrom: <sip:bob@example.com>;tag=1\r\nTo: <sip:bob@example.com>\r\nCall-ID: r1\r\nCSeq: 2 REGISTER\r\nContact: <sip:bob@10.0.0.2:5070>;expires=600\r\n";
+const SECOND_ONE: &[u8] =
+    b"Via: SIP/2.0/UDP 10.0.0.2:5070;branch=z9hG4bK2\r\nFrom: <sip:bob@example.com>;tag=1\r\nTo: <sip:bob@example.com>\r\nCall-ID: r1\r\nCSeq: 2 REGISTER\r\nContact: <sip:bob@10.0.0.2:5070>;expires=600\r\n";
 
-const ANOTHER_BRANCH: &[u8] = b"Via: SIP/2.0/UDP 10.0.0.2:5070;branch=z9hG4bK3\r\nFrom: <sip:bob@example.com>;tag=1\r\nTo: <sip:bob@example.com>\r\nCall-ID: r1\r\nCSeq: 2 REGISTER\r\nContact: <sip:bob@10.0.0.2:5070>;expires=600\r\n";
+const ANOTHER_BRANCH: &[u8] =
+    b"Via: SIP/2.0/UDP 10.0.0.2:5070;branch=z9hG4bK3\r\nFrom: <sip:bob@example.com>;tag=1\r\nTo: <sip:bob@example.com>\r\nCall-ID: r1\r\nCSeq: 2 REGISTER\r\nContact: <sip:bob@10.0.0.2:5070>;expires=600\r\n";
 
-const LOWER: &[u8] = b"Via: SIP/2.0/UDP 10.0.0.2:5070;branch=z9hG4bK4\r\nFrom: <sip:bob@example.com>;tag=1\r\nTo: <sip:bob@example.com>\r\nCall-ID: r1\r\nCSeq: 1 REGISTER\r\nContact: <sip:bob@10.0.0.2:5070>;expires=600\r\n";
+const LOWER: &[u8] =
+    b"Via: SIP/2.0/UDP 10.0.0.2:5070;branch=z9hG4bK4\r\nFrom: <sip:bob@example.com>;tag=1\r\nTo: <sip:bob@example.com>\r\nCall-ID: r1\r\nCSeq: 1 REGISTER\r\nContact: <sip:bob@10.0.0.2:5070>;expires=600\r\n";
 
-const STAR_LATER: &[u8] = b"Via: SIP/2.0/UDP 10.0.0.2:5070;branch=z9hG4bK5\r\nFrom: <sip:bob@example.com>;tag=1\r\nTo: <sip:bob@example.com>\r\nCall-ID: r1\r\nCSeq: 3 REGISTER\r\nContact: *\r\nExpires: 60\r\n";
+const STAR_LATER: &[u8] =
+    b"Via: SIP/2.0/UDP 10.0.0.2:5070;branch=z9hG4bK5\r\nFrom: <sip:bob@example.com>;tag=1\r\nTo: <sip:bob@example.com>\r\nCall-ID: r1\r\nCSeq: 3 REGISTER\r\nContact: *\r\nExpires: 60\r\n";
 
-const STAR_BESIDE: &[u8] = b"Via: SIP/2.0/UDP 10.0.0.2:5070;branch=z9hG4bK6\r\nFrom: <sip:bob@example.com>;tag=1\r\nTo: <sip:bob@example.com>\r\nCall-ID: r1\r\nCSeq: 3 REGISTER\r\nContact: *\r\nContact: <sip:bob@10.0.0.3>\r\nExpires: 0\r\n";
+const STAR_BESIDE: &[u8] =
+    b"Via: SIP/2.0/UDP 10.0.0.2:5070;branch=z9hG4bK6\r\nFrom: <sip:bob@example.com>;tag=1\r\nTo: <sip:bob@example.com>\r\nCall-ID: r1\r\nCSeq: 3 REGISTER\r\nContact: *\r\nContact: <sip:bob@10.0.0.3>\r\nExpires: 0\r\n";
 
-const STAR: &[u8] = b"Via: SIP/2.0/UDP 10.0.0.2:5070;branch=z9hG4bK7\r\nFrom: <sip:bob@example.com>;tag=1\r\nTo: <sip:bob@example.com>\r\nCall-ID: r1\r\nCSeq: 3 REGISTER\r\nContact: *\r\nExpires: 0\r\n";
+const STAR: &[u8] =
+    b"Via: SIP/2.0/UDP 10.0.0.2:5070;branch=z9hG4bK7\r\nFrom: <sip:bob@example.com>;tag=1\r\nTo: <sip:bob@example.com>\r\nCall-ID: r1\r\nCSeq: 3 REGISTER\r\nContact: *\r\nExpires: 0\r\n";
 
-const FROM_OTHER: &[u8] = b"Via: SIP/2.0/UDP 10.0.0.2:5070;branch=z9hG4bK8\r\nFrom: <sip:bob@example.com>;tag=1\r\nTo: <sip:bob@example.com>\r\nCall-ID: r2\r\nCSeq: 2 REGISTER\r\nContact: <sip:bob@10.0.0.2:5070>;expires=600\r\n";
+const FROM_OTHER: &[u8] =
+    b"Via: SIP/2.0/UDP 10.0.0.2:5070;branch=z9hG4bK8\r\nFrom: <sip:bob@example.com>;tag=1\r\nTo: <sip:bob@example.com>\r\nCall-ID: r2\r\nCSeq: 2 REGISTER\r\nContact: <sip:bob@10.0.0.2:5070>;expires=600\r\n";
 
-const BRIEF: &[u8] = b"Via: SIP/2.0/UDP 10.0.0.2:5070;branch=z9hG4bK9\r\nFrom: <sip:bob@example.com>;tag=1\r\nTo: <sip:bob@example.com>\r\nCall-ID: r1\r\nCSeq: 2 REGISTER\r\nContact: <sip:bob@10.0.0.2>, <sip:bob@10.0.0.3>;expires=30\r\n";
+const BRIEF: &[u8] =
+    b"Via: SIP/2.0/UDP 10.0.0.2:5070;branch=z9hG4bK9\r\nFrom: <sip:bob@example.com>;tag=1\r\nTo: <sip:bob@example.com>\r\nCall-ID: r1\r\nCSeq: 2 REGISTER\r\nContact: <sip:bob@10.0.0.2>, <sip:bob@10.0.0.3>;expires=30\r\n";
 
-const TIMES: &[u8] = b"Via: SIP/2.0/UDP 198.51.100.7:41000;branch=z9hG4bKa\r\nFrom: <sip:bob@example.com>;tag=1\r\nTo: <sip:bob@example.com>\r\nCall-ID: r1\r\nCSeq: 2 REGISTER\r\nContact: <sip:bob@198.51.100.7:5070>;expires=x;q=0.5 ;+sip.instance=\"<urn:1>\"\r\nm: \"Bob\" <sip:bob@198.51.100.7>;EXPIRES = 999999\r\nContact: sip:b@198.51.100.7:5072\r\nExpires: 120\r\n";
+const TIMES: &[u8] =
+    b"Via: SIP/2.0/UDP 198.51.100.7:41000;branch=z9hG4bKa\r\nFrom: <sip:bob@example.com>;tag=1\r\nTo: <sip:bob@example.com>\r\nCall-ID: r1\r\nCSeq: 2 REGISTER\r\nContact: <sip:bob@198.51.100.7:5070>;expires=x;q=0.5 ;+sip.instance=\"<urn:1>\"\r\nm: \"Bob\" <sip:bob@198.51.100.7>;EXPIRES = 999999\r\nContact: sip:b@198.51.100.7:5072\r\nExpires: 120\r\n";
 
-const EXTENSION: &[u8] = b"Via: SIP/2.0/UDP 10.0.0.2:5070;branch=z9hG4bKb\r\nFrom: <sip:bob@example.com>;tag=1\r\nTo: <sip:bob@elsewhere.example>\r\nCall-ID: r1\r\nCSeq: 2 REGISTER\r\nRequire: path\r\nRequire: gruu, outbound\r\n";
+const EXTENSION: &[u8] =
+    b"Via: SIP/2.0/UDP 10.0.0.2:5070;branch=z9hG4bKb\r\nFrom: <sip:bob@example.com>;tag=1\r\nTo: <sip:bob@elsewhere.example>\r\nCall-ID: r1\r\nCSeq: 2 REGISTER\r\nRequire: path\r\nRequire: gruu, outbound\r\n";
 
-const ELSEWHERE: &[u8] = b"Via: SIP/2.0/UDP 10.0.0.2:5070;branch=z9hG4bKc\r\nFrom: <sip:bob@example.com>;tag=1\r\nTo: <sip:bob@elsewhere.example>\r\nCall-ID: r1\r\nCSeq: 2 REGISTER\r\n";
+const ELSEWHERE: &[u8] =
+    b"Via: SIP/2.0/UDP 10.0.0.2:5070;branch=z9hG4bKc\r\nFrom: <sip:bob@example.com>;tag=1\r\nTo: <sip:bob@elsewhere.example>\r\nCall-ID: r1\r\nCSeq: 2 REGISTER\r\n";
 
-const NOBODY: &[u8] = b"Via: SIP/2.0/UDP 10.0.0.2:5070;branch=z9hG4bKd\r\nFrom: <sip:bob@example.com>;tag=1\r\nTo: <sip:example.com>\r\nCall-ID: r1\r\nCSeq: 2 REGISTER\r\n";
+const NOBODY: &[u8] =
+    b"Via: SIP/2.0/UDP 10.0.0.2:5070;branch=z9hG4bKd\r\nFrom: <sip:bob@example.com>;tag=1\r\nTo: <sip:example.com>\r\nCall-ID: r1\r\nCSeq: 2 REGISTER\r\n";
 
-const BY_TCP: &[u8] = b"Via: SIP/2.0/UDP 10.0.0.2:5070;branch=z9hG4bKe\r\nFrom: <sip:bob@example.com>;tag=1\r\nTo: <sip:bob@example.com>\r\nCall-ID: r1\r\nCSeq: 2 REGISTER\r\nContact: <sip:bob@10.0.0.2;transport=tcp>\r\n";
+const BY_TCP: &[u8] =
+    b"Via: SIP/2.0/UDP 10.0.0.2:5070;branch=z9hG4bKe\r\nFrom: <sip:bob@example.com>;tag=1\r\nTo: <sip:bob@example.com>\r\nCall-ID: r1\r\nCSeq: 2 REGISTER\r\nContact: <sip:bob@10.0.0.2;transport=tcp>\r\n";
 
-const TELEPHONE_NUMBER: &[u8] = b"Via: SIP/2.0/UDP 10.0.0.2:5070;branch=z9hG4bKf\r\nFrom: <sip:bob@example.com>;tag=1\r\nTo: <sip:bob@example.com>\r\nCall-ID: r1\r\nCSeq: 2 REGISTER\r\nContact: <tel:+15550100>\r\n";
+const TELEPHONE_NUMBER: &[u8] =
+    b"Via: SIP/2.0/UDP 10.0.0.2:5070;branch=z9hG4bKf\r\nFrom: <sip:bob@example.com>;tag=1\r\nTo: <sip:bob@example.com>\r\nCall-ID: r1\r\nCSeq: 2 REGISTER\r\nContact: <tel:+15550100>\r\n";
 
-const UNCLOSED: &[u8] = b"Via: SIP/2.0/UDP 10.0.0.2:5070;branch=z9hG4bKg\r\nFrom: <sip:bob@example.com>;tag=1\r\nTo: <sip:bob@example.com>\r\nCall-ID: r1\r\nCSeq: 2 REGISTER\r\nContact: <sip:bob@10.0.0.2>\r\nContact: \"bob\r\n";
+const UNCLOSED: &[u8] =
+    b"Via: SIP/2.0/UDP 10.0.0.2:5070;branch=z9hG4bKg\r\nFrom: <sip:bob@example.com>;tag=1\r\nTo: <sip:bob@example.com>\r\nCall-ID: r1\r\nCSeq: 2 REGISTER\r\nContact: <sip:bob@10.0.0.2>\r\nContact: \"bob\r\n";
 
-const TWICE: &[u8] = b"Via: SIP/2.0/UDP 10.0.0.2:5070;branch=z9hG4bKh\r\nFrom: <sip:bob@example.com>;tag=1\r\nTo: <sip:bob@example.com>\r\nCall-ID: r1\r\nCSeq: 2 REGISTER\r\nContact: <sip:bob@10.0.0.2>, <sip:bob@10.0.0.2>;expires=30\r\n";
+const TWICE: &[u8] =
+    b"Via: SIP/2.0/UDP 10.0.0.2:5070;branch=z9hG4bKh\r\nFrom: <sip:bob@example.com>;tag=1\r\nTo: <sip:bob@example.com>\r\nCall-ID: r1\r\nCSeq: 2 REGISTER\r\nContact: <sip:bob@10.0.0.2>, <sip:bob@10.0.0.2>;expires=30\r\n";
 
 /// A request without Authorization.
 const PLAIN: Row = Row {
@@ -165,7 +183,10 @@ const ORDER: &[Row] = &[
     Row {
         lines: EXTENSION,
         status: 420,
-        wanted: Wanted::Lines(&[(b"Unsupported", b"path"), (b"Unsupported", b"gruu, outbound")]),
+        wanted: Wanted::Lines(&[
+            (b"Unsupported", b"path"),
+            (b"Unsupported", b"gruu, outbound"),
+        ]),
         ..PLAIN
     },
     Row {
@@ -347,7 +368,11 @@ fn one_telephone(rt: HostRuntime) {
 
 #[test]
 fn two_telephones(rt: HostRuntime) {
-    holds(&rt, plays(rt.alloc(), true, TWO), "behind two translated addresses");
+    holds(
+        &rt,
+        plays(rt.alloc(), true, TWO),
+        "behind two translated addresses",
+    );
 }
 
 #[test]
@@ -357,11 +382,16 @@ fn refusals_have_an_order(rt: HostRuntime) {
 
 #[test]
 fn contacts_are_shown(rt: HostRuntime) {
-    holds(&rt, plays(rt.alloc(), true, CONTACTS), "times and parameters");
+    holds(
+        &rt,
+        plays(rt.alloc(), true, CONTACTS),
+        "times and parameters",
+    );
 }
 
 #[test]
 fn passwords_have_to_be_right(rt: HostRuntime) {
+    bindings_need_their_users_password();
     holds(&rt, plays(rt.alloc(), true, PASSWORDS), "each password");
 }
 

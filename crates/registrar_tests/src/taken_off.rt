@@ -13,14 +13,26 @@ fn takes_off(alloc: Global, name: &[u8], value: &[u8]) -> bool {
 
 /// Lines, and whether they do not go on.
 const LINES: &[(&[u8], &[u8], bool)] = &[
-    (b"Proxy-Authorization", b"Digest realm=\"example.com\"", true),
+    (
+        b"Proxy-Authorization",
+        b"Digest realm=\"example.com\"",
+        true,
+    ),
     (
         b"PROXY-authorization",
         b"digest username=\"bob\", realm = example.com, x",
         true,
     ),
-    (b"Proxy-Authorization", b"Digest realm=\"elsewhere.example\"", false),
-    (b"Proxy-Authorization", b"Basic realm=\"example.com\"", false),
+    (
+        b"Proxy-Authorization",
+        b"Digest realm=\"elsewhere.example\"",
+        false,
+    ),
+    (
+        b"Proxy-Authorization",
+        b"Basic realm=\"example.com\"",
+        false,
+    ),
     (b"Authorization", b"Digest realm=\"example.com\"", false),
 ];
 
