@@ -7,6 +7,7 @@ use crate::binding::Binding;
 use crate::contact::ContactParts;
 use crate::lists::MOST;
 use crate::request::RegisterRequest;
+use crate::there::BindingsAt;
 use std::alloc::{AllocError, Allocator};
 
 /// The bindings that the contacts of a request ask for, in order.
@@ -35,10 +36,9 @@ pub(crate) fn copied_there<A: Allocator + Clone>(
     ensures room { IfOk result (λ v. vec_len v + more ≤ vec_capacity v) }
 {
     let mut copies = Vec::new(alloc.clone()?);
-    for binding in bindings {
-        if binding.is_there(moment) {
-            copies.push(binding.copied(alloc.clone()?)?)?;
-        }
+    let mut rest = BindingsAt::new(moment, bindings);
+    while let Some(binding) = rest.next() {
+        copies.push(binding.copied(alloc.clone()?)?)?;
     }
     copies.reserve(more)?;
     Ok(copies)

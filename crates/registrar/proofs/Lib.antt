@@ -1,3 +1,3 @@
-pub mod Contacts
+pub mod ContactLists
 pub mod Values
 pub mod Passwords

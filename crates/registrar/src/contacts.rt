@@ -87,11 +87,11 @@ fn all_asked<'a, A: Allocator + Clone>(
     let mut all = Vec::new(alloc.clone()?);
     let mut rest = items;
     while let Some((item, after)) = rest.split_first() {
-        match asked_of(alloc, terms, item)? {
-            None => return Ok(None),
-            Some(asked) => all.push(asked)?,
-        }
         rest = after;
+        let Some(asked) = asked_of(alloc, terms, item)? else {
+            return Ok(None);
+        };
+        all.push(asked)?;
     }
     Ok(Some(all))
 }

@@ -2,7 +2,7 @@ use Rattle.std.proofs.Common.{◌≡◌, length}
 use Rattle.registrar.specs.Contacts.{all_asked}
 use Rattle.registrar.specs.SeenContacts.{view_items}
 use Rattle.registrar.specs.SeenTerms.{seen_terms}
-use Rattle.registrar.proofs.Contacts.{in_front}
+use Rattle.registrar.proofs.ContactLists.{in_front}
 use Rattle.registrar.proofs.contacts.all_asked.Given as goal
 
 abbrev pub invariant-loop-item : goal.invariant-loop-item
