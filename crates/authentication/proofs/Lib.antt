@@ -2,3 +2,4 @@ pub mod Pieces
 pub mod Values
 pub mod Verdicts
 pub mod Once
+mod Fronts

@@ -1,5 +1,5 @@
 -- Challenges are values that a header line may have.
-use Rattle.std.proofs.Common.{◌≡◌, ℕ, zero, suc, Bool, true, false, not, ◌&&◌, List, [], ◌∷◌, ◌++◌, take, get_or, length, ◌<◌, codes, reverse, refl, ap, arith}
+use Rattle.std.proofs.Common.{◌≡◌, ℕ, zero, suc, Bool, true, false, not, ◌&&◌, List, [], ◌∷◌, ◌++◌, take, get_or, length, ◌<◌, codes, reverse, refl, ap, ◌∙◌, arith}
 use Rattle.std.proofs.lemmas.Bool.{and_parts}
 use Rattle.std.specs.Int.{w32, to_be_bytes}
 use Rattle.std.specs.List.{list_all}
@@ -91,3 +91,10 @@ pub challenge_header : (challenger : Challenger) (realm nonce : List ℕ) (stale
     → is_header (challenge_line challenger realm nonce stale algorithm) ≡ true
 challenge_header Server realm nonce stale algorithm r n = challenge-value realm nonce algorithm stale (realm-line realm r) n
 challenge_header Proxy realm nonce stale algorithm r n = challenge-value realm nonce algorithm stale (realm-line realm r) n
+
+pub challenge_is_header : (challenger : Challenger) (name value realm nonce : List ℕ) (stale : Bool) (algorithm : Algorithm) → name ≡ challenge_name challenger
+    → value ≡ challenge_text realm nonce algorithm stale → list_all is_realm_byte realm ≡ true → is_line nonce ≡ true → is_header (line name value) ≡ true
+challenge_is_header challenger name value realm nonce stale algorithm named spelled r n =
+    ap (λ (x : List ℕ). is_header (line x value)) named
+    ∙ ap (λ (x : List ℕ). is_header (line (challenge_name challenger) x)) spelled
+    ∙ challenge_header challenger realm nonce stale algorithm r n

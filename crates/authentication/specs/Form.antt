@@ -11,9 +11,9 @@ abbrev pub seen_form : Option (Bor (List ℕ) × Option (Bor (List ℕ))) → Op
 seen_form None = None
 seen_form (Some p) = Some (p.0.now, option_copied p.1)
 
--- the parameter has this name, which is in lower case
+-- the parameter has this name, in any case
 abbrev pub is_named : List ℕ → List ℕ → Bool
-is_named name param = bytes_eq (str_to_ascii_lowercase (name_of param)) name
+is_named name param = bytes_eq (str_to_ascii_lowercase (name_of param)) (str_to_ascii_lowercase name)
 
 -- the first of this name
 abbrev pub param_named : List ℕ → List (List ℕ) → Option (List ℕ)

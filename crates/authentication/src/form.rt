@@ -167,14 +167,14 @@ pub fn are_contact_params(params: Option<&[u8]>) -> bool
     true
 }
 
-/// Whether a parameter has this name, which is in lower case.
+/// Whether a parameter has this name, in any case.
 pub fn is_named(param: &[u8], name: &[u8]) -> bool
     ensures { result ≡ is_named name.now param.now }
 {
     name_of(param).eq_ignore_ascii_case(name)
 }
 
-/// The first parameter of a contact that has this name, which is in lower case.
+/// The first parameter of a contact that has this name, in any case.
 pub fn param_named<'a>(params: Option<&'a [u8]>, name: &[u8]) -> Option<&'a [u8]>
     ensures { option_copied result ≡ param_named name.now (contact_params (option_copied params.entry)) }
 {

@@ -4,6 +4,7 @@ ghost use Rattle.std.specs.List.{list_all};
 ghost use Rattle.std.specs.Option.{option_copied};
 ghost use Rattle.sip_lex.specs.Values.{is_line};
 ghost use Rattle.sip_via.specs.Address.{address_text};
+ghost use Rattle.sip_digest.specs.Challenge.{challenge_text};
 ghost use Rattle.sip_digest.specs.Stamp.{nonce_text};
 ghost use Rattle.authentication.specs.Answer.{challenged, turned_away, turned_by, with_line};
 ghost use Rattle.authentication.specs.Challenge.{challenge_line};
@@ -20,8 +21,22 @@ use sip_build::OwnStatus;
 use sip_digest::{Algorithm, append_challenge, append_nonce};
 use std::alloc::{AllocError, Allocator};
 
+/// The value of a challenge by an algorithm.
+fn challenge_value<A: Allocator, U: Allocator>(
+    alloc: A,
+    realm: &Realm<'_, U>,
+    nonce: &[u8],
+    stale: bool,
+    algorithm: Algorithm,
+) -> Result<Vec<u8, A>, AllocError>
+    ensures { IfOk result (λ value. value.items ≡ challenge_text realm.now.name.now nonce.now algorithm stale) }
+{
+    let mut value = Vec::new(alloc);
+    append_challenge(&mut value, realm.name, nonce, algorithm, stale)?;
+    Ok(value)
+}
+
 /// Adds a challenge by an algorithm.
-#[tactic(auto, using(crate::proofs::Values::challenge_header))]
 fn add_challenge<A: Allocator + Clone, U: Allocator>(
     alloc: A,
     answer: &mut Answer<A>,
@@ -34,8 +49,7 @@ fn add_challenge<A: Allocator + Clone, U: Allocator>(
     requires { is_line nonce.now ≡ true }
     ensures { OnOk result (answer.new ≡ with_line answer.old (challenge_line challenger realm.now.name.now nonce.now stale algorithm)) }
 {
-    let mut value = Vec::new(alloc);
-    append_challenge(&mut value, realm.name, nonce, algorithm, stale)?;
+    let value = challenge_value(alloc, realm, nonce, stale, algorithm)?;
     answer.push(challenger.challenge_name(), value)
 }
 

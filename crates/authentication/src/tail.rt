@@ -4,8 +4,7 @@ ghost use Rattle.std.specs.Option.{option_copied};
 ghost use Rattle.sip_lex.specs.Cut.{cut, is};
 ghost use Rattle.sip_lex.specs.Pieces.{pieces_behind};
 ghost use Rattle.sip_uri.specs.Reading.{parts_of, port_and_params, user_of};
-ghost use Rattle.sip_uri.specs.Uri.{is_named};
-ghost use Rattle.authentication.specs.Tail.{port_of_uri};
+ghost use Rattle.authentication.specs.Tail.{is_uri_param, port_of_uri};
 
 use sip_lex::cut_at;
 use sip_uri::{cut_host, read_port};
@@ -121,9 +120,9 @@ impl<'a> Iterator for UriParams<'a> {
     }
 }
 
-/// Whether a parameter of a URI has this name, which is in lower case.
+/// Whether a parameter of a URI has this name, in any case.
 pub fn is_uri_param(param: &[u8], name: &[u8]) -> bool
-    ensures { result ≡ is_named name.now param.now }
+    ensures { result ≡ is_uri_param name.now param.now }
 {
     cut_at(param, b'=').0.eq_ignore_ascii_case(name)
 }

@@ -9,14 +9,14 @@ pub returns-in-Right : goal.returns-in-Right
 returns-in-Right g c =
     let realm = seen_realm c.args.realm.now in
     let credentials = seen_credentials c.args.credentials.now in
-    let same : c.secrets.result ≡ realm.secrets credentials.username = c.secrets.ensures ∙ ap (λ (name : List ℕ). realm.secrets name) c.as_slice.ensures in
-    are_right realm c.args.asked.now credentials c.secrets.result same (c.in_ok-verdict.ensures.right.0 c.in-Right.is)
+    let same : c.secrets-secrets.result ≡ realm.secrets credentials.username = c.secrets-secrets.ensures ∙ ap (λ (name : List ℕ). realm.secrets name) c.as_slice.ensures in
+    are_right realm c.args.asked.now credentials c.secrets-secrets.result same (c.in_ok-verdict.ensures.right.0 c.in-Right.is)
 
 pub returns-in-Wrong : goal.returns-in-Wrong
 returns-in-Wrong g c =
     let realm = seen_realm c.args.realm.now in
     let credentials = seen_credentials c.args.credentials.now in
-    let same : c.secrets.result ≡ realm.secrets credentials.username = c.secrets.ensures ∙ ap (λ (name : List ℕ). realm.secrets name) c.as_slice.ensures in (
+    let same : c.secrets-secrets.result ≡ realm.secrets credentials.username = c.secrets-secrets.ensures ∙ ap (λ (name : List ℕ). realm.secrets name) c.as_slice.ensures in (
       λ stale. let bad = c.in_ok-verdict.ensures.stale.1 stale in absurd (cc (bad, c.in-Wrong.is)),
-      λ right. let bad = c.in_ok-verdict.ensures.right.1 (were_right realm c.args.asked.now credentials c.secrets.result same right) in absurd (cc (bad, c.in-Wrong.is)),
+      λ right. let bad = c.in_ok-verdict.ensures.right.1 (were_right realm c.args.asked.now credentials c.secrets-secrets.result same right) in absurd (cc (bad, c.in-Wrong.is)),
     )
