@@ -72,3 +72,10 @@ abbrev pub Registers : Register → List Binding → List Binding → Result (Un
 Registers r old new (Ok _) = registered r old ≡ Ok new
 Registers r old new (Err NoMemory) = (registered r old ≡ Ok (changed r (there r.at old))) × (new ≡ old)
 Registers r old new (Err why) = (registered r old ≡ Err why) × (new ≡ old)
+
+-- a call that says what registering would make of the bindings: nothing where the request comes again
+abbrev pub Prepares : Register → List Binding → Result (Option (List Binding)) RegisterRefusal → Type 0
+Prepares r old (Ok None) = is_repeat r old ≡ true
+Prepares r old (Ok (Some new)) = (is_repeat r old ≡ false) × (refusal r (there r.at old) ≡ None) × (new ≡ changed r (there r.at old))
+Prepares r old (Err NoMemory) = (is_repeat r old ≡ false) × (refusal r (there r.at old) ≡ None)
+Prepares r old (Err why) = (is_repeat r old ≡ false) × (refusal r (there r.at old) ≡ Some why)

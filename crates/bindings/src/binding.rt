@@ -153,7 +153,35 @@ impl<A: Allocator + Clone> OwnedId<A> {
     }
 }
 
+impl<A: Allocator + Clone> OwnedId<A> {
+    /// The same, with texts of its own.
+    fn copied(&self, alloc: A) -> Result<OwnedId<A>, AllocError>
+        ensures { IfOk result (λ i. i ≡ self.now) }
+    {
+        let call_id = Vec::from_slice(alloc.clone()?, &self.call_id)?;
+        let key = Vec::from_slice(alloc, &self.key)?;
+        Ok(OwnedId {
+            call_id,
+            cseq: self.cseq,
+            key,
+        })
+    }
+}
+
 impl<A: Allocator + Clone> Binding<A> {
+    /// The same, with texts of its own.
+    pub(crate) fn copied(&self, alloc: A) -> Result<Binding<A>, AllocError>
+        ensures { IfOk result (λ b. b ≡ self.now) }
+    {
+        let contact = OwnedContact::of(alloc.clone()?, &self.contact())?;
+        let by = self.by.copied(alloc)?;
+        Ok(Binding {
+            contact,
+            ends: self.ends,
+            by,
+        })
+    }
+
     /// The binding that a contact of a request asks for.
     pub(crate) fn of(
         alloc: A,

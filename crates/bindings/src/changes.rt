@@ -7,6 +7,7 @@ use crate::binding::Binding;
 use crate::contact::ContactParts;
 use crate::lists::MOST;
 use crate::request::RegisterRequest;
+use crate::there::BindingsAt;
 use std::alloc::{AllocError, Allocator};
 
 /// The bindings that the contacts of a request ask for, in order.
@@ -22,6 +23,25 @@ pub(crate) fn made<A: Allocator + Clone>(
         made.push(binding)?;
     }
     Ok(made)
+}
+
+/// Copies of the bindings that are there at a moment, in their order, with room for so many more.
+pub(crate) fn copied_there<A: Allocator + Clone>(
+    alloc: A,
+    moment: u64,
+    bindings: &[Binding<A>],
+    more: usize,
+) -> Result<Vec<Binding<A>, A>, AllocError>
+    ensures items { IfOk result (λ v. v.items ≡ there moment bindings.now) }
+    ensures room { IfOk result (λ v. vec_len v + more ≤ vec_capacity v) }
+{
+    let mut copies = Vec::new(alloc.clone()?);
+    let mut rest = BindingsAt::new(moment, bindings);
+    while let Some(binding) = rest.next() {
+        copies.push(binding.copied(alloc.clone()?)?)?;
+    }
+    copies.reserve(more)?;
+    Ok(copies)
 }
 
 /// Lets go the bindings that have ended.

@@ -1,11 +1,11 @@
 //! The bindings of one user.
-ghost use Rattle.std.specs.Prelude.{◌≡◌, [], OnErr, OnOk};
+ghost use Rattle.std.specs.Prelude.{◌≡◌, ◌↔◌, [], IfOk, IsTrue, OnErr, OnOk, length};
 ghost use Rattle.bindings.specs.Bindings.{changed, first_end, is_there, there};
-ghost use Rattle.bindings.specs.Registering.{Registers, is_repeat};
+ghost use Rattle.bindings.specs.Registering.{Prepares, Registers, is_repeat};
 ghost use Rattle.bindings.specs.Seen.{register_of};
 
 use crate::binding::Binding;
-use crate::changes::{first_end_at, keep_there, let_go, made, take_all_in};
+use crate::changes::{copied_there, first_end_at, keep_there, let_go, made, take_all_in};
 use crate::lists::{is_repeat, refusal};
 use crate::refusal::RegisterRefusal;
 use crate::request::RegisterRequest;
@@ -86,6 +86,65 @@ impl<A: Allocator> UserBindings<A> {
         }
         self.change(alloc, request)?;
         Ok(())
+    }
+
+    /// How many are kept, those among them that have ended.
+    pub fn len(&self) -> usize
+        ensures { result ≡ length self.now }
+    {
+        self.bindings.len()
+    }
+
+    /// Whether none is kept.
+    pub fn is_empty(&self) -> bool
+        ensures { IsTrue result ↔ (self.now ≡ []) }
+    {
+        self.bindings.is_empty()
+    }
+
+    /// What `register` would make of them, beside them as they are: for a caller who has something else to do before the change is seen,
+    /// or who may give it up. Nothing where the request made a binding that is there, for then it comes again.
+    ///
+    /// # Errors
+    ///
+    /// As those of `register`.
+    pub fn prepared(
+        &self,
+        alloc: A,
+        request: &RegisterRequest<'_>,
+    ) -> Result<Option<UserBindings<A>>, RegisterRefusal>
+    where
+        A: Clone,
+        ensures { Prepares (register_of request.now) self.now result }
+    {
+        let comes_again = self.is_repeat(request);
+        if comes_again {
+            return Ok(None);
+        }
+        match refusal(request, &self.bindings) {
+            Some(why) => Err(why),
+            None => Ok(Some(self.changed(alloc, request)?)),
+        }
+    }
+
+    /// All that a request asks for, beside them as they are.
+    fn changed(
+        &self,
+        alloc: A,
+        request: &RegisterRequest<'_>,
+    ) -> Result<UserBindings<A>, AllocError>
+    where
+        A: Clone,
+        ensures { IfOk result (λ new. new ≡ changed (register_of request.now) (there request.now.at self.now)) }
+    {
+        if request.star.is_some() {
+            return Ok(UserBindings::new(alloc));
+        }
+        let made = made(alloc.clone()?, request)?;
+        let mut bindings = copied_there(alloc, request.at, &self.bindings, made.len())?;
+        take_all_in(request.at, made, &mut bindings);
+        let_go(request, &mut bindings);
+        Ok(UserBindings { bindings })
     }
 
     /// All that a request asks for, or nothing.

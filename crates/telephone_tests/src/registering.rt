@@ -61,6 +61,19 @@ fn again(branch: &[u8], at: u64) -> RegisterRequest<'_> {
     }
 }
 
+/// A later request that takes all bindings away.
+fn taken_away(at: u64) -> RegisterRequest<'static> {
+    RegisterRequest {
+        call_id: b"r1",
+        cseq: 3,
+        key: b"b9",
+        at,
+        least: 60,
+        star: Some(0),
+        contacts: &[],
+    }
+}
+
 /// Whether a request that comes again is known before its contacts are read, while its binding is there.
 fn knows_a_repeat(alloc: Global) -> bool {
     let Some(bindings) = played(alloc, &ONE[..1]) else {
@@ -74,4 +87,27 @@ fn knows_a_repeat(alloc: Global) -> bool {
 #[test]
 fn a_request_that_comes_again_is_known(rt: HostRuntime) {
     holds(&rt, knows_a_repeat(rt.alloc()), "by its transaction alone");
+}
+
+/// Whether a change that is prepared leaves the bindings as they are, and a request that comes again prepares none.
+fn prepares_beside(alloc: Global) -> bool {
+    let Some(bindings) = played(alloc, &ONE[..1]) else {
+        return false;
+    };
+    let Ok(changed) = bindings.prepared(alloc, &taken_away(2_000)) else {
+        return false;
+    };
+    let Ok(repeated) = bindings.prepared(alloc, &again(b"b2", 2_000)) else {
+        return false;
+    };
+    let all_gone = match changed {
+        None => false,
+        Some(changed) => changed.is_empty(),
+    };
+    all_gone && repeated.is_none() && bindings.len() == 1
+}
+
+#[test]
+fn a_change_may_be_given_up(rt: HostRuntime) {
+    holds(&rt, prepares_beside(rt.alloc()), "the old and the new");
 }

@@ -1,0 +1,5 @@
+pub mod Pieces
+pub mod Values
+pub mod Verdicts
+pub mod Once
+mod Fronts

@@ -1,0 +1,13 @@
+pub mod Domain
+pub mod Form
+pub mod Party
+pub mod Tail
+pub mod Challenge
+pub mod Given
+pub mod Realm
+pub mod SeenRealm
+pub mod Standing
+pub mod SeenStanding
+pub mod Answer
+pub mod Note
+pub mod Noted

@@ -1,0 +1,3 @@
+pub mod ContactLists
+pub mod Values
+pub mod Passwords
