@@ -1,7 +1,7 @@
 //! Answers that a server makes of its own: a status, and the header lines that it has beside those that each answer has.
 
-use sip_build::{FurtherLine, OwnStatus, write_generated};
-use sip_text::Message;
+use sip_build::{OwnStatus, write_generated};
+use sip_text::{HeaderLine, Message};
 use std::alloc::{AllocError, Allocator, Global};
 use std::marker::Model;
 
@@ -43,12 +43,12 @@ impl<A: Allocator> Model for Answer<A> {
 
 impl<A: Allocator> AnswerLine<A> {
     ghost use Rattle.std.specs.Prelude.{◌≡◌};
-    ghost use Rattle.sip_build.specs.Further.{view_line};
+    ghost use Rattle.sip_text.specs.Seen.{view_line};
 
-    fn as_further(&self) -> FurtherLine<'_>
+    fn as_further(&self) -> HeaderLine<'_>
         ensures { view_line result ≡ self.now }
     {
-        FurtherLine {
+        HeaderLine {
             name: self.name,
             value: &self.value,
         }
@@ -61,7 +61,7 @@ impl<A: Allocator> Answer<A> {
     ghost use Rattle.sip_text.specs.Message.{is_header};
     ghost use Rattle.sip_text.specs.Text.{spelling};
     ghost use Rattle.sip_via.specs.Edits.{line};
-    ghost use Rattle.sip_build.specs.Further.{view_lines};
+    ghost use Rattle.sip_text.specs.Seen.{view_lines};
     ghost use Rattle.sip_build.specs.Generated.{generated_of};
     ghost use Rattle.authentication.specs.Answer.{plain, with_line};
 
@@ -104,7 +104,7 @@ impl<A: Allocator> Answer<A> {
     pub fn further_lines<B: Allocator>(
         &self,
         alloc: B,
-    ) -> Result<Vec<FurtherLine<'_>, B>, AllocError>
+    ) -> Result<Vec<HeaderLine<'_>, B>, AllocError>
         ensures exact { IfOk result (λ lines. view_lines lines.items ≡ self.now.lines) }
         ensures good { list_all is_header self.now.lines ≡ true }
     {

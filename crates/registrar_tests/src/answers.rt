@@ -2,8 +2,8 @@
 use crate::requests::joined;
 use crate::world::{SECOND, SECRET};
 use authentication::{Answer, append_address};
-use sip_build::FurtherLine;
 use sip_digest::append_nonce;
+use sip_text::HeaderLine;
 use std::alloc::{AllocError, Global};
 
 /// The further lines of an answer.
@@ -15,12 +15,12 @@ pub enum Wanted {
     Challenges(&'static [u8], bool),
 }
 
-fn is_line(line: &FurtherLine<'_>, name: &[u8], value: &[u8]) -> bool {
+fn is_line(line: &HeaderLine<'_>, name: &[u8], value: &[u8]) -> bool {
     line.name == name && line.value == value
 }
 
 /// Whether the lines are these.
-fn are_lines(lines: &[FurtherLine<'_>], wanted: &[(&[u8], &[u8])]) -> bool {
+fn are_lines(lines: &[HeaderLine<'_>], wanted: &[(&[u8], &[u8])]) -> bool {
     if lines.len() != wanted.len() {
         return false;
     }
@@ -53,7 +53,7 @@ fn challenge(
 /// Whether the lines are both challenges to this address.
 fn are_challenges(
     alloc: Global,
-    lines: &[FurtherLine<'_>],
+    lines: &[HeaderLine<'_>],
     name: &[u8],
     addr: [u8; 4],
     stale: bool,

@@ -1,5 +1,5 @@
 use Rattle.std.proofs.Common.{◌≡◌, take}
-use Rattle.sip_build.specs.Further.{view_lines}
+use Rattle.sip_text.specs.Seen.{view_lines}
 use Rattle.authentication.proofs.answer.Answer.further_lines.Given as goal
 
 abbrev pub invariant-loop-line : goal.invariant-loop-line
