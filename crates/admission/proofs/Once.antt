@@ -7,7 +7,7 @@ use Rattle.sip_build.specs.declared.responses.OwnStatus.{OwnStatus}
 use Rattle.authentication.specs.declared.challenge.Challenger.TheVariants.{Proxy}
 use Rattle.authentication.specs.Party.{uri_in}
 use Rattle.authentication.specs.Standing.{Standing, arrival_of}
-use Rattle.authentication.proofs.Once.{stands_once}
+use Rattle.authentication.proofs.laws.Once.{stands_once}
 use Rattle.admission.specs.declared.decision.Arrival.{Arrival}
 use Rattle.admission.specs.Sender.{claims_domain}
 use Rattle.admission.specs.Decision.{Admission, Decision, IsDecision, IsOfChecked, IsOfRequest, IsOfSender, IsOfSource, IsOfUntrusted, claimed, is_for_registrar}

@@ -1,5 +1,4 @@
-pub mod Pieces
+pub mod laws
 pub mod Values
 pub mod Verdicts
-pub mod Once
 mod Fronts

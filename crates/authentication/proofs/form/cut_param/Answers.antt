@@ -1,4 +1,4 @@
-use Rattle.authentication.proofs.Pieces.{next_piece}
+use Rattle.authentication.proofs.laws.Pieces.{next_piece}
 use Rattle.authentication.proofs.form.cut_param.Goals as goal
 
 pub returns : goal.returns

@@ -1,4 +1,4 @@
-use Rattle.authentication.proofs.Pieces.{next_part}
+use Rattle.authentication.proofs.laws.Pieces.{next_part}
 use Rattle.authentication.proofs.tail.cut_param.Goals as goal
 
 pub returns : goal.returns

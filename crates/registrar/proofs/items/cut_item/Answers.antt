@@ -2,7 +2,7 @@ use Rattle.std.proofs.Common.{◌∙◌, map, sym, ap, List, ℕ, ◌∷◌}
 use Rattle.std.specs.Option.{option_copied}
 use Rattle.sip_lex.specs.Bytes.{trim}
 use Rattle.sip_uri.specs.Contact.{items_behind}
-use Rattle.authentication.proofs.Pieces.{next_piece}
+use Rattle.authentication.proofs.laws.Pieces.{next_piece}
 use Rattle.registrar.proofs.items.cut_item.Goals as goal
 
 pub returns : goal.returns
