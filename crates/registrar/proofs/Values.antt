@@ -1,6 +1,7 @@
 -- What a registrar writes may stand in header lines.
-use Rattle.std.proofs.Common.{◌≡◌, ℕ, ◌<◌, ◌^◌, Bool, true, false, not, List, [], ◌∷◌, ◌++◌, length, codes, reverse, refl, ap, ◌∙◌, arith}
+use Rattle.std.proofs.Common.{◌≡◌, ℕ, ◌<◌, ◌^◌, Bool, true, false, not, List, [], ◌∷◌, ◌++◌, length, codes, reverse, refl, sym, ap, ◌∙◌, arith}
 use Rattle.std.specs.Fmt.{decimal}
+use Rattle.std.specs.List.{list_all}
 use Rattle.std.specs.Prelude.{◌&&◌}
 use Rattle.std.proofs.lemmas.Bool.{and_parts}
 use Rattle.std.proofs.lemmas.Fmt.{decimal_nonempty}
@@ -17,8 +18,9 @@ not_false : (b : Bool) → not b ≡ true → b ≡ false
 not_false true h = absurd cc
 not_false false h = refl
 
-pub decimal_header : (name : List ℕ) (n : ℕ) → is_token name ≡ true → n < 2 ^ 64 → is_header (line name (decimal n)) ≡ true
-decimal_header name n token small = and_both (is_token name) (is_value (decimal n)) token (decimal-value n small)
+pub decimal_header : (name value : List ℕ) (n : ℕ) → is_token name ≡ true → value ≡ decimal n → n < 2 ^ 64 → is_header (line name value) ≡ true
+decimal_header name value n token is small =
+    and_both (is_token name) (is_value value) token (ap (λ (v : List ℕ). is_value v) is ∙ decimal-value n small)
 
 decimal_end : (n : ℕ) → n < 2 ^ 64 → IsEnd (decimal n)
 decimal_end n small =
@@ -43,5 +45,13 @@ contact_value item n h small =
     and_both (is_line (shown item n)) (is_trimmed (shown item n)) within
     (and_both (not (begins_with_space (shown item n))) (not (begins_with_space (reverse (shown item n)))) (ap not front) (ap not back.ends))
 
-pub contact_header : (item : List ℕ) (n : ℕ) → is_item item ≡ true → n < 2 ^ 64 → is_header (line (codes "Contact") (item ++ (codes ";expires=" ++ decimal n))) ≡ true
-contact_header item n h small = contact_value item n h small
+pub contact_header : (item value : List ℕ) (n : ℕ) → is_item item ≡ true → value ≡ item ++ (codes ";expires=" ++ decimal n) → n < 2 ^ 64
+    → is_header (line (codes "Contact") value) ≡ true
+contact_header item value n h is small = ap (λ (v : List ℕ). is_value v) is ∙ contact_value item n h small
+
+-- the first of several values
+pub unsupported_header : (values : List (List ℕ)) (value : List ℕ) (rest : List (List ℕ)) (copy : List ℕ) → values ≡ value ∷ rest → list_all is_value values ≡ true → copy ≡ value
+    → is_header (line (codes "Unsupported") copy) ≡ true
+unsupported_header values value rest copy e all is =
+    let both = and_parts (is_value value) (list_all is_value rest) (sym (ap (list_all is_value) e) ∙ all) in
+    ap (λ (v : List ℕ). is_value v) is ∙ both.0

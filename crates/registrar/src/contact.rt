@@ -1,11 +1,12 @@
 //! One contact of a REGISTER request.
-ghost use Rattle.std.specs.Prelude.{◌≡◌, ◌++◌, ◌-◌, ◌+◌, IfOk, OnOk, filter, length, take};
+ghost use Rattle.std.specs.Prelude.{◌≡◌, ◌∷◌, ◌++◌, ◌-◌, ◌+◌, [], IfOk, OnOk, filter, length, take};
 ghost use Rattle.std.specs.List.{list_all};
 ghost use Rattle.std.specs.Option.{option_copied, option_map};
 ghost use Rattle.sip_uri.specs.Contact.{contact_params, q_of};
 ghost use Rattle.sip_uri.specs.Reading.{read_uri, uri_of};
+ghost use Rattle.sip_uri.specs.Uri.{params_text};
 ghost use Rattle.authentication.specs.Form.{seen_form};
-ghost use Rattle.registrar.specs.Contact.{asked_at, asked_if_read, asked_of, asked_of_form, asked_over, front_of, hop_from, is_expires, kept_text, shown_item, time_of, transport_of, value_named};
+ghost use Rattle.registrar.specs.Contact.{asked_at, asked_if_read, asked_of, asked_of_form, asked_over, front_of, hop_from, is_expires, is_kept, kept_text, shown_item, time_of, transport_of, value_named};
 ghost use Rattle.registrar.specs.SeenTerms.{seen_terms};
 
 use crate::asked::AskedContact;
@@ -51,16 +52,26 @@ fn front_of<'a>(item: &'a [u8], params: Option<&[u8]>) -> &'a [u8]
     }
 }
 
+/// Appends a parameter behind its `;`, unless it is an `expires`.
+#[tactic(auto, using(crate::proofs::ContactLists::left_out, crate::proofs::ContactLists::written))]
+fn append_unless_expires<B: Allocator>(out: &mut Vec<u8, B>, param: &[u8]) -> Result<(), AllocError>
+    ensures { OnOk result (out.new.items ≡ out.old.items ++ params_text (filter is_kept (param.now ∷ []))) }
+{
+    if is_expires(param) {
+        return Ok(());
+    }
+    out.push(b';')?;
+    out.extend_from_slice(param)
+}
+
 /// Appends the parameters but `expires`, each behind its `;`.
+#[tactic(auto, using(crate::proofs::ContactLists::kept_step))]
 fn append_kept<B: Allocator>(out: &mut Vec<u8, B>, params: Option<&[u8]>) -> Result<(), AllocError>
     ensures { OnOk result (out.new.items ≡ out.old.items ++ kept_text (option_copied params.entry)) }
 {
     let mut params = ContactParams::of(params);
     while let Some(param) = params.next() {
-        if !is_expires(param) {
-            out.push(b';')?;
-            out.extend_from_slice(param)?;
-        }
+        append_unless_expires(out, param)?;
     }
     Ok(())
 }

@@ -77,6 +77,7 @@ fn are_star(items: &[&[u8]]) -> bool
 }
 
 /// What each of some contacts asks for; nothing where one asks for nothing that can be done.
+#[tactic(auto, using(crate::proofs::ContactLists::next_read, crate::proofs::ContactLists::none_read, crate::proofs::ContactLists::all_read))]
 fn all_asked<'a, A: Allocator + Clone>(
     alloc: &A,
     terms: &ContactTerms<'_>,

@@ -1,5 +1,6 @@
 //! What a REGISTER request makes of the bindings of its user.
-ghost use Rattle.std.specs.Prelude.{◌≡◌, IfOk, false};
+ghost use Rattle.std.specs.Fmt.{decimal};
+ghost use Rattle.std.specs.Prelude.{◌≡◌, ◌+◌, IfOk, false, nat_lt};
 ghost use Rattle.bindings.specs.Bindings.{there};
 ghost use Rattle.bindings.specs.Registering.{is_repeat, refusal};
 ghost use Rattle.bindings.specs.Seen.{all_asked_of, register_of as seen_request};
@@ -90,13 +91,20 @@ fn request_with<'c, A: Allocator>(
     }
 }
 
+/// A number as the value of a header line.
+fn decimal_value<A: Allocator>(alloc: A, n: u32) -> Result<Vec<u8, A>, AllocError>
+    ensures { IfOk result (λ value. value.items ≡ decimal n) }
+{
+    let mut value = Vec::new(alloc);
+    append_decimal(&mut value, u64::from(n))?;
+    Ok(value)
+}
+
 /// The 423 that says how many seconds are the fewest.
-#[tactic(auto, using(crate::proofs::Values::decimal_header))]
 fn too_brief_answer<A: Allocator + Clone>(alloc: A, least: u32) -> Result<Answer<A>, AllocError>
     ensures { IfOk result (λ answer. answer ≡ too_brief_answer least) }
 {
-    let mut value = Vec::new(alloc.clone()?);
-    append_decimal(&mut value, u64::from(least))?;
+    let value = decimal_value(alloc.clone()?, least)?;
     let mut answer = Answer::new(alloc, OwnStatus::IntervalTooBrief);
     answer.push(b"Min-Expires", value)?;
     Ok(answer)
@@ -119,6 +127,13 @@ fn refused<A: Allocator>(alloc: A, status: OwnStatus) -> Outcome<A>
     Outcome::Refused(Answer::new(alloc, status))
 }
 
+/// Whether so many bindings and those of the others are more than there may be.
+fn is_full(others: u32, most: u32, count: usize) -> bool
+    ensures { result ≡ nat_lt most (others + count) }
+{
+    u64::from(most) < u64::from(others).saturating_add(count as u64)
+}
+
 /// These bindings, where there are not too many in all then.
 fn unless_full<A: Allocator + Clone>(
     alloc: A,
@@ -128,7 +143,7 @@ fn unless_full<A: Allocator + Clone>(
 ) -> Result<Outcome<A>, AllocError>
     ensures { IfOk result (λ outcome. seen_outcome outcome ≡ unless_full others most changed) }
 {
-    if u64::from(most) < u64::from(others) + changed.len() as u64 {
+    if is_full(others, most, changed.len()) {
         Ok(Outcome::Refused(full_answer(alloc)?))
     } else {
         Ok(Outcome::Changes(changed))

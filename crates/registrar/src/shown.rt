@@ -1,7 +1,8 @@
 //! The answer to a REGISTER request that was taken.
-ghost use Rattle.std.specs.Prelude.{◌≡◌, IfOk, OnOk, true};
+ghost use Rattle.std.specs.Fmt.{decimal};
+ghost use Rattle.std.specs.Prelude.{◌≡◌, ◌++◌, IfOk, OnOk, codes, true};
 ghost use Rattle.sip_lex.specs.Values.{begins_with_space, is_line, is_value};
-ghost use Rattle.registrar.specs.Shown.{contact_text, is_item, okay, seconds_left, with_contact};
+ghost use Rattle.registrar.specs.Shown.{is_item, okay, seconds_left, with_contact};
 
 use authentication::Answer;
 use bindings::{Binding, UserBindings};
@@ -40,23 +41,18 @@ fn is_item(item: &[u8]) -> bool
     is_line(item) && !begins_with_space(item)
 }
 
-/// The text of a contact that is bound.
-fn contact_text<A: Allocator, B: Allocator>(
-    alloc: B,
-    moment: u64,
-    binding: &Binding<A>,
-) -> Result<Vec<u8, B>, AllocError>
-    ensures { IfOk result (λ text. text.items ≡ contact_text moment binding.now) }
+/// The value of the line of a contact, for which so many seconds are left.
+fn contact_value<B: Allocator>(alloc: B, item: &[u8], seconds: u64) -> Result<Vec<u8, B>, AllocError>
+    ensures { IfOk result (λ value. value.items ≡ item.now ++ (codes ";expires=" ++ decimal seconds)) }
 {
-    let mut text = Vec::new(alloc);
-    text.extend_from_slice(binding.contact().item)?;
-    text.extend_from_slice(b";expires=")?;
-    append_decimal(&mut text, seconds_left(moment, binding.ends()))?;
-    Ok(text)
+    let mut value = Vec::new(alloc);
+    value.extend_from_slice(item)?;
+    value.extend_from_slice(b";expires=")?;
+    append_decimal(&mut value, seconds)?;
+    Ok(value)
 }
 
 /// Adds the line of a binding, where its item may stand in one.
-#[tactic(auto, using(crate::proofs::Values::contact_header))]
 fn add_contact<A: Allocator, B: Allocator + Clone>(
     alloc: B,
     answer: &mut Answer<B>,
@@ -65,11 +61,13 @@ fn add_contact<A: Allocator, B: Allocator + Clone>(
 ) -> Result<(), AllocError>
     ensures { OnOk result (answer.new ≡ with_contact moment answer.old binding.now) }
 {
-    if !is_item(binding.contact().item) {
+    let parts = binding.contact();
+    if !is_item(parts.item) {
         return Ok(());
     }
-    let text = contact_text(alloc, moment, binding)?;
-    answer.push(b"Contact", text)
+    let seconds = seconds_left(moment, binding.ends());
+    let value = contact_value(alloc, parts.item, seconds)?;
+    answer.push(b"Contact", value)
 }
 
 /// The 200 to a REGISTER request that was taken, by the bindings that are kept then (RFC 3261 section 10.3 step 8): for each that is there

@@ -13,5 +13,5 @@ of_sender-decision-requires g c = c.in_ok-from.ensures ∙ ap party_uri c.first_
 pub returns : goal.returns
 returns g c =
     let from : c.in_ok-from.from ≡ uri_in (codes "from") c.args.message.now = c.in_ok-from.ensures ∙ ap party_uri c.first_value.ensures in
-    let claims = c.claims_domain.ensures ∙ ap (λ (u : Option Uri). claims_domain c.args.admission.now.domain u) from in
+    let claims = c.claims_domain-claims.ensures ∙ ap (λ (u : Option Uri). claims_domain c.args.admission.now.domain u) from in
     subst (λ (b : Bool). IsOfSender b (seen_admission c.args.admission.now) c.args.arrival c.args.message.now (seen_decision c.in_ok-decision.decision)) claims c.in_ok-decision.ensures

@@ -7,4 +7,4 @@ use Rattle.registrar.proofs.asking.asking_of.Goals as goal
 pub returns : goal.returns
 returns g c =
     let r = c.args.registrar.now in
-    subst (λ (b : Bool). IsAskingIf b r.domain (realm_if_any r.realm) r.expirations c.args.source c.args.message.now (seen_asking c.in_ok-asked.asked)) c.asks_extension.ensures c.in_ok-asked.ensures
+    subst (λ (b : Bool). IsAskingIf b r.domain (realm_if_any r.realm) r.expirations c.args.source c.args.message.now (seen_asking c.in_ok-asked.asked)) c.asks_extension-extension.ensures c.in_ok-asked.ensures
