@@ -30,8 +30,10 @@ pub fn is_taken_off<A: Allocator + Clone>(
     if !is_proxy_authorization(name) {
         return Ok(false);
     }
-    match read_credentials(alloc, value, realm)? {
+    let reading = read_credentials(alloc, value, realm)?;
+    match reading {
         Reading::OtherRealm => Ok(false),
-        Reading::Unreadable | Reading::Read(_) => Ok(true),
+        Reading::Unreadable => Ok(true),
+        Reading::Read(_) => Ok(true),
     }
 }

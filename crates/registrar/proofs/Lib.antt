@@ -1,3 +1,4 @@
 pub mod ContactLists
 pub mod Values
+pub mod Outcomes
 pub mod Passwords

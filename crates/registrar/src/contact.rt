@@ -104,11 +104,12 @@ fn value_named<'a>(params: Option<&'a [u8]>, name: &[u8]) -> Option<&'a [u8]>
 fn time_of(terms: &ContactTerms<'_>, params: Option<&[u8]>) -> u32
     ensures { result ≡ time_of (seen_terms terms.now) (option_copied params.entry) }
 {
-    let value = match param_named(params, b"expires") {
-        None => None,
-        Some(param) => Some(value_of(param)),
-    };
-    terms.expirations.time_by(value, terms.expires)
+    match param_named(params, b"expires") {
+        None => terms.expirations.time_by(None, terms.expires),
+        Some(param) => terms
+            .expirations
+            .time_by(Some(value_of(param)), terms.expires),
+    }
 }
 
 /// Where a request to a contact is sent.
@@ -156,6 +157,26 @@ fn asked_at<'a, A: Allocator + Clone>(
     })
 }
 
+/// What a contact asks for whose URI was read; nothing where it asks for a transport that the proxy has not.
+fn asked_over<'a, A: Allocator + Clone>(
+    alloc: &A,
+    terms: &ContactTerms<'_>,
+    item: &[u8],
+    address: &'a [u8],
+    params: Option<&'a [u8]>,
+    uri: SipUri<A>,
+) -> Result<Option<AskedContact<'a, A>>, AllocError>
+    ensures { IfOk result (λ asked. asked ≡ asked_over (seen_terms terms.now) item.now address.entry.now (option_copied params.entry) uri (transport_of terms.now.streams (uri_of address.entry.now).params)) }
+{
+    match transport_of(terms.streams, address) {
+        None => Ok(None),
+        Some(transport) => {
+            let asked = asked_at(alloc.clone()?, terms, item, address, params, uri, transport)?;
+            Ok(Some(asked))
+        }
+    }
+}
+
 /// What a contact asks for with this address.
 fn asked_with<'a, A: Allocator + Clone>(
     alloc: &A,
@@ -166,17 +187,10 @@ fn asked_with<'a, A: Allocator + Clone>(
 ) -> Result<Option<AskedContact<'a, A>>, AllocError>
     ensures { IfOk result (λ asked. asked ≡ asked_if_read (seen_terms terms.now) item.now address.entry.now (option_copied params.entry) (read_uri address.entry.now)) }
 {
-    let uri = match SipUri::read(alloc.clone()?, address) {
-        Ok(uri) => uri,
-        Err(UriFault::NoMemory) => return Err(AllocError),
-        Err(_) => return Ok(None),
-    };
-    match transport_of(terms.streams, address) {
-        None => Ok(None),
-        Some(transport) => {
-            let asked = asked_at(alloc.clone()?, terms, item, address, params, uri, transport)?;
-            Ok(Some(asked))
-        }
+    match SipUri::read(alloc.clone()?, address) {
+        Ok(uri) => asked_over(alloc, terms, item, address, params, uri),
+        Err(UriFault::NoMemory) => Err(AllocError),
+        Err(_) => Ok(None),
     }
 }
 
