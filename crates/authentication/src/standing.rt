@@ -66,7 +66,8 @@ fn judged_of<'a, A: Allocator + Clone, U: Allocator + Clone>(
 ) -> Result<Standing<'a, A>, AllocError>
     ensures { IfOk result (λ standing. IsJudgedOf (seen_realm realm.now) (asked_as asked.now) (seen_credentials credentials.entry) (seen_standing standing)) }
 {
-    if !is_uri_of(alloc.clone()?, credentials.uri.as_slice(), asked.uri)? {
+    let is_uri = is_uri_of(alloc.clone()?, credentials.uri.as_slice(), asked.uri)?;
+    if !is_uri {
         return Ok(Standing::Unusable);
     }
     let verdict = verdict(alloc.clone()?, realm, asked, &credentials)?;
