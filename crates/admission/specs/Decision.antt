@@ -54,9 +54,12 @@ is_of_domain_if_read domain (Some uri) = is_of_domain domain uri
 abbrev pub is_for_domain : Domain → MessageText → Bool
 is_for_domain domain m = is_of_domain_if_read domain (uri_if_read (read_uri (request_uri m.start)))
 
+abbrev pub is_register : MessageText → Bool
+is_register m = bytes_eq (or_empty (method_in m.start)) (codes "REGISTER")
+
 -- a REGISTER for the domain (section 10.2)
 abbrev pub is_for_registrar : Domain → MessageText → Bool
-is_for_registrar domain m = bytes_eq (or_empty (method_in m.start)) (codes "REGISTER") && is_for_domain domain m
+is_for_registrar domain m = is_register m && is_for_domain domain m
 
 -- ---- one who claims to be of the domain: 400; he may send it; 403 for another user's; a challenge
 

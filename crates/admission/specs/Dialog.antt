@@ -30,10 +30,10 @@ param_value param = (cut (is 61) param).1
 
 -- the value of the first parameter `d` of a URI
 abbrev pub token_at : List ℕ → Option (List ℕ)
-token_at address = option_and_then (find (is_named (codes "d")) (uri_of address).params) param_value
+token_at address = option_and_then param_value (find (is_named (codes "d")) (uri_of address).params)
 
 abbrev pub token_of : List ℕ → Option (List ℕ)
-token_of value = option_and_then (bracketed value) token_at
+token_of value = option_and_then token_at (bracketed value)
 
 -- a Route value that leads to the proxy itself, with a token that is good for this Call-ID
 pub record IsOwnWithToken (secret : List ℕ) (own : Own) (second : ℕ) (call_id value : List ℕ) : Type 0 where

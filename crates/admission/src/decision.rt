@@ -4,7 +4,7 @@ ghost use Rattle.std.specs.Option.{option_map};
 ghost use Rattle.authentication.specs.Noted.{noted};
 ghost use Rattle.authentication.specs.Party.{uri_in};
 ghost use Rattle.authentication.specs.SeenStanding.{seen_standing};
-ghost use Rattle.admission.specs.Decision.{IsDecision, IsOfChecked, IsOfRequest, IsOfSender, IsOfSource, IsOfUntrusted, claimed, is_for_domain, is_for_registrar, other, plain_turned, proved, unproved};
+ghost use Rattle.admission.specs.Decision.{IsDecision, IsOfChecked, IsOfRequest, IsOfSender, IsOfSource, IsOfUntrusted, claimed, is_for_domain, is_for_registrar, is_register, other, plain_turned, proved, unproved};
 ghost use Rattle.admission.specs.Sender.{claims_domain};
 ghost use Rattle.admission.specs.SeenDecision.{seen_admission, seen_decision};
 
@@ -86,6 +86,13 @@ fn is_for_domain<M: Allocator, A: Allocator + Clone>(
     }
 }
 
+/// Whether a request is a REGISTER.
+fn is_register<M: Allocator>(message: &Message<M>) -> bool
+    ensures { result ≡ is_register message.now }
+{
+    message.method().unwrap_or(b"") == b"REGISTER".as_slice()
+}
+
 /// Whether a request is a REGISTER for the domain (RFC 3261 section 10.2): Max-Forwards and Route are not looked at then.
 ///
 /// # Errors
@@ -98,7 +105,7 @@ pub fn is_for_registrar<M: Allocator, A: Allocator + Clone>(
 ) -> Result<bool, AllocError>
     ensures { IfOk result (λ is. is ≡ is_for_registrar domain.now message.now) }
 {
-    if message.method().unwrap_or(b"") != b"REGISTER".as_slice() {
+    if !is_register(message) {
         return Ok(false);
     }
     is_for_domain(alloc, domain, message)

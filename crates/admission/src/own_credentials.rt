@@ -4,13 +4,15 @@ ghost use Rattle.sip_text.specs.Name.{same_name};
 ghost use Rattle.admission.specs.OwnCredentials.{IsTakenOff};
 
 use sip_digest::{Reading, read_credentials};
+use sip_text::HeaderLine;
 use std::alloc::{AllocError, Allocator};
 
 /// Whether a name is Proxy-Authorization, which has no compact form.
 fn is_proxy_authorization(name: &[u8]) -> bool
     ensures { result ≡ same_name (codes "proxy-authorization") name.now }
 {
-    name.eq_ignore_ascii_case(b"proxy-authorization")
+    let line = HeaderLine { name, value: b"" };
+    line.is_named(b"proxy-authorization")
 }
 
 /// Whether a header line does not go on with a request: it is a Proxy-Authorization line whose value is credentials for this realm, such as

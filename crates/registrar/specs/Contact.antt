@@ -70,7 +70,7 @@ hop_from source address uri transport =
 
 -- the value of the first parameter of this name, if it has one
 abbrev pub value_named : List ℕ → Option (List ℕ) → Option (List ℕ)
-value_named name params = option_and_then (param_named name (contact_params params)) value_of
+value_named name params = option_and_then value_of (param_named name (contact_params params))
 
 abbrev pub time_of : Terms → Option (List ℕ) → ℕ
 time_of terms params = time_by terms.expirations (option_map value_of (param_named (codes "expires") (contact_params params))) terms.expires
