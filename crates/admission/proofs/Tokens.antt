@@ -14,7 +14,7 @@ use Rattle.admission.specs.Dialog.{IsOfDialog, IsOwnWithToken, first_route, toke
 pub false_true : IsTrue false → ⊥
 false_true e = absurd cc
 
-differ : (b : Bool) → b ≡ false → b ≡ true → ⊥
+pub differ : (b : Bool) → b ≡ false → b ≡ true → ⊥
 differ b e f = absurd cc
 
 none_some : {X : Type 0} (o : Option X) (x : X) → o ≡ None → o ≡ Some x → ⊥

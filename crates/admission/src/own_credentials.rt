@@ -1,6 +1,7 @@
 //! Credentials for the proxy's own realm.
-ghost use Rattle.std.specs.Prelude.{◌≡◌, ◌↔◌, IfOk, IsTrue, codes};
+ghost use Rattle.std.specs.Prelude.{◌≡◌, ◌↔◌, IfOk, IsTrue, codes, is_some};
 ghost use Rattle.sip_text.specs.Name.{same_name};
+ghost use Rattle.sip_digest.specs.SeenCredentials.{seen_reading};
 ghost use Rattle.admission.specs.OwnCredentials.{IsTakenOff};
 
 use sip_digest::{Reading, read_credentials};
@@ -13,6 +14,17 @@ fn is_proxy_authorization(name: &[u8]) -> bool
 {
     let line = HeaderLine { name, value: b"" };
     line.is_named(b"proxy-authorization")
+}
+
+/// Whether a value has something for the realm.
+fn is_of_realm<A: Allocator>(reading: &Reading<'_, A>) -> bool
+    ensures { result ≡ is_some (seen_reading reading.now) }
+{
+    match reading {
+        Reading::OtherRealm => false,
+        Reading::Unreadable => true,
+        Reading::Read(_) => true,
+    }
 }
 
 /// Whether a header line does not go on with a request: it is a Proxy-Authorization line whose value is credentials for this realm, such as
@@ -33,9 +45,6 @@ pub fn is_taken_off<A: Allocator + Clone>(
         return Ok(false);
     }
     let reading = read_credentials(alloc, value, realm)?;
-    match reading {
-        Reading::OtherRealm => Ok(false),
-        Reading::Unreadable => Ok(true),
-        Reading::Read(_) => Ok(true),
-    }
+    let taken = is_of_realm(&reading);
+    Ok(taken)
 }

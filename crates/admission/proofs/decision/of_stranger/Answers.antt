@@ -7,8 +7,8 @@ use Rattle.admission.specs.SeenDecision.{seen_admission, seen_decision}
 use Rattle.admission.specs.Sender.{claims_domain}
 use Rattle.admission.proofs.decision.of_stranger.Goals as goal
 
-pub of_sender-decision-requires : goal.of_sender-decision-requires
-of_sender-decision-requires g c = c.in_ok-from.ensures ∙ ap party_uri c.first_value.ensures
+pub of_sender-requires : goal.of_sender-requires
+of_sender-requires g c = c.in_ok-from.ensures ∙ ap party_uri c.first_value.ensures
 
 pub returns : goal.returns
 returns g c =
