@@ -6,3 +6,4 @@ mod Apart
 mod Answered
 mod Failing
 mod Fronts
+mod Lines

@@ -1,3 +1,6 @@
 pub mod Head
 pub mod Why
+pub mod Notes
 pub mod Block
+pub mod Shown
+pub mod Since

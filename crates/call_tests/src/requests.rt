@@ -1,4 +1,6 @@
 //! A setup, a request of one of its users, and the call that it opens.
+ghost use Rattle.std.specs.Prelude.{◌≡◌};
+
 use call_model::Datagram;
 use call_routing::{Memory, OpeningRequest, is_openable, open};
 use call_state::CallState;
@@ -108,7 +110,9 @@ pub fn request_with(alloc: Global, changes: &[Change]) -> Option<Message<Global>
 }
 
 /// A request that came from `SOURCE` at 0, all of whose memory is in this allocator.
-pub fn opening_of(alloc: Global, request: Message<Global>) -> OpeningRequest<Global> {
+pub fn opening_of(alloc: Global, request: Message<Global>) -> OpeningRequest<Global>
+    ensures { result.request ≡ request }
+{
     OpeningRequest {
         memory: Memory { alloc, heap: alloc },
         request,

@@ -3,9 +3,6 @@ use Rattle.std.proofs.Common.{◌≡◌, ◌≢◌, ℕ, zero, suc, ◌-◌, ◌
 use Rattle.std.proofs.lemmas.Bool.{cond-false, ne_eqb}
 use Rattle.sip_lex.specs.Cut.{Lacks, cut, is}
 use Rattle.sip_lex.proofs.laws.Cuts.{cut_again}
-use Rattle.config_form.specs.declared.form.Form.{Form}
-use Rattle.config_form.specs.declared.form.Form.TheVariants.{Missing}
-use Rattle.config_form.specs.Form.{form_at, form_of, form_of_line}
 use Rattle.config_form.specs.Line.{AreLines, behind_lines, ended_line, first_line, line_at, written}
 
 abbrev Cut : Type 0
@@ -65,15 +62,16 @@ line_missing lines rest (suc count) are lacks few =
 
 -- ---- their forms
 
-pub form_found : (text : List ℕ) (number : ℕ) (form : Form) → form ≡ form_at text number → (lines : List (List ℕ)) (line rest : List ℕ) → AreLines lines → Lacks 10 line
-    → text ≡ written lines (line ++ 10 ∷ rest) → number ≡ suc (length lines) → form ≡ form_of_line line
-form_found text number form e lines line rest are is_line whole place =
-    e
-    ∙ ap (λ (t : List ℕ). form_of (line_at t number)) whole
-    ∙ ap (λ (n : ℕ). form_of (line_at (written lines (line ++ 10 ∷ rest)) n)) place
-    ∙ ap form_of (line_found lines line rest are is_line)
+module _ {F : Type 0} (form_of : Option (List ℕ) → F) where
+  pub form_found : (text : List ℕ) (number : ℕ) (form : F) → form ≡ form_of (line_at text number) → (lines : List (List ℕ)) (line rest : List ℕ) → AreLines lines → Lacks 10 line
+      → text ≡ written lines (line ++ 10 ∷ rest) → number ≡ suc (length lines) → form ≡ form_of (Some line)
+  form_found text number form e lines line rest are is_line whole place =
+      e
+      ∙ ap (λ (t : List ℕ). form_of (line_at t number)) whole
+      ∙ ap (λ (n : ℕ). form_of (line_at (written lines (line ++ 10 ∷ rest)) n)) place
+      ∙ ap form_of (line_found lines line rest are is_line)
 
-pub form_missing : (text : List ℕ) (number : ℕ) (form : Form) → form ≡ form_at text number → (lines : List (List ℕ)) (rest : List ℕ) → AreLines lines → Lacks 10 rest
-    → text ≡ written lines rest → length lines < number → form ≡ Missing
-form_missing text number form e lines rest are lacks whole few =
-    e ∙ ap (λ (t : List ℕ). form_of (line_at t number)) whole ∙ ap form_of (line_missing lines rest number are lacks few)
+  pub form_missing : (text : List ℕ) (number : ℕ) (form : F) → form ≡ form_of (line_at text number) → (lines : List (List ℕ)) (rest : List ℕ) → AreLines lines → Lacks 10 rest
+      → text ≡ written lines rest → length lines < number → form ≡ form_of None
+  form_missing text number form e lines rest are lacks whole few =
+      e ∙ ap (λ (t : List ℕ). form_of (line_at t number)) whole ∙ ap form_of (line_missing lines rest number are lacks few)

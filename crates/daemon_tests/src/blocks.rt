@@ -3,6 +3,7 @@ ghost use Rattle.std.specs.Prelude.{◌≡◌};
 
 use crate::holds::holds;
 use crate::outbox::Outbox;
+use call_journal::{Happening, Note};
 use call_table::Shelf;
 use daemon_parts::{DaemonFault, Options};
 use fork_call::{Call, Setup};
@@ -29,8 +30,22 @@ const SOURCE: Hop = Hop {
 /// The second of which a block tells.
 const TIME: u64 = 1_700_000_000;
 
+/// What is noted of its one target.
+const NOTES: [Note; 2] = [
+    Note {
+        target: 0,
+        what: Happening::Rang(180),
+        at: 120,
+    },
+    Note {
+        target: 0,
+        what: Happening::Cancelled,
+        at: 15_000,
+    },
+];
+
 const BLOCK: &[u8] =
-    b"call 1700000000 0 OPTIONS sip:bob@example.com from <sip:alice@example.com>;tag=1 call-id one open\n";
+    b"call 1700000000 0 OPTIONS sip:bob@example.com from <sip:alice@example.com>;tag=1 call-id one open\ntarget 0 rang 180 at 120, cancelled at 15000\n";
 
 /// A configuration whose second line is malformed.
 const MALFORMED: &[u8] = b"own 127.0.0.1 47430\ninstance seven\n";
@@ -51,7 +66,7 @@ struct Scene {
 fn written(call: &mut Call<Global>, block: &mut Vec<u8>) -> bool
     ensures { call.new.opened.number ≡ call.old.opened.number }
 {
-    append_block(call, TIME, block).is_ok()
+    append_block(call, TIME, &NOTES, block).is_ok()
 }
 
 impl Scene {

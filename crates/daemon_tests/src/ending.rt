@@ -164,7 +164,7 @@ const TIMERS_LEFT: &[Moment] = &[
     (
         5_100,
         Turn::Writes(
-            "0 OPTIONS sip:bob@example.com from <sip:alice@example.com>;tag=1 call-id one failed 404 from sip:bob@192.0.2.4, the only answer\nfork ",
+            "0 OPTIONS sip:bob@example.com from <sip:alice@example.com>;tag=1 call-id one failed 404 from sip:bob@192.0.2.4, the only answer\ntarget 0 404 at 5050\nfork ",
         ),
     ),
     (5_100, Turn::WritesNothing),

@@ -62,7 +62,7 @@ const SUCCESS: &[Moment] = &[
     (
         32_100,
         Turn::Writes(
-            "0 INVITE sip:bob@example.com from <sip:alice@example.com>;tag=1 call-id one answered\n",
+            "0 INVITE sip:bob@example.com from <sip:alice@example.com>;tag=1 call-id one answered\ntarget 0 rang 180 at 20, answered 200 at 100\n",
         ),
     ),
     (32_100, Turn::Lacks("fork ")),
@@ -96,7 +96,7 @@ const FAILURE: &[Moment] = &[
     (
         32_020,
         Turn::Writes(
-            "0 INVITE sip:bob@example.com from <sip:alice@example.com>;tag=1 call-id one failed 486 from sip:bob@192.0.2.4, the only answer\nfork 3 1\n",
+            "0 INVITE sip:bob@example.com from <sip:alice@example.com>;tag=1 call-id one failed 486 from sip:bob@192.0.2.4, the only answer\ntarget 0 486 at 20\nfork 3 1\n",
         ),
     ),
     (
@@ -127,7 +127,7 @@ const TIMEOUT: &[Moment] = &[
     (
         37_100,
         Turn::Writes(
-            "0 INVITE sip:bob@example.com from <sip:alice@example.com>;tag=1 call-id one failed 408 assumed for sip:bob@192.0.2.4, the only answer\nfork 3 1\n",
+            "0 INVITE sip:bob@example.com from <sip:alice@example.com>;tag=1 call-id one failed 408 assumed for sip:bob@192.0.2.4, the only answer\ntarget 0 timed out at 32000\nfork 3 1\n",
         ),
     ),
 ];
@@ -216,25 +216,25 @@ const CLASSES: &[Moment] = &[
     (
         32_020,
         Turn::Writes(
-            "0 OPTIONS sip:bob@example.com from <sip:alice@example.com>;tag=1 call-id one failed 302 from sip:bob@192.0.2.4, the only answer\nfork ",
+            "0 OPTIONS sip:bob@example.com from <sip:alice@example.com>;tag=1 call-id one failed 302 from sip:bob@192.0.2.4, the only answer\ntarget 0 302 at 20\nfork ",
         ),
     ),
     (
         32_020,
         Turn::Writes(
-            "1 OPTIONS sip:bob@example.com from <sip:alice@example.com>;tag=1 call-id two failed 404 from sip:bob@192.0.2.4, the only answer\nfork ",
+            "1 OPTIONS sip:bob@example.com from <sip:alice@example.com>;tag=1 call-id two failed 404 from sip:bob@192.0.2.4, the only answer\ntarget 0 404 at 20\nfork ",
         ),
     ),
     (
         32_020,
         Turn::Writes(
-            "2 OPTIONS sip:bob@example.com from <sip:alice@example.com>;tag=1 call-id three failed 500 from sip:bob@192.0.2.4, the only answer\nfork ",
+            "2 OPTIONS sip:bob@example.com from <sip:alice@example.com>;tag=1 call-id three failed 500 from sip:bob@192.0.2.4, the only answer\ntarget 0 500 at 20\nfork ",
         ),
     ),
     (
         32_020,
         Turn::Writes(
-            "3 OPTIONS sip:bob@example.com from <sip:alice@example.com>;tag=1 call-id four failed 603 from sip:bob@192.0.2.4, the only answer\nfork ",
+            "3 OPTIONS sip:bob@example.com from <sip:alice@example.com>;tag=1 call-id four failed 603 from sip:bob@192.0.2.4, the only answer\ntarget 0 603 at 20\nfork ",
         ),
     ),
     (
@@ -273,13 +273,13 @@ const WHYS: &[Moment] = &[
     (
         33_000,
         Turn::Writes(
-            "0 OPTIONS sip:bob@example.com from <sip:alice@example.com>;tag=1 call-id one failed 480 from sip:bob@192.0.2.4, the only answer\nfork 3 1\n",
+            "0 OPTIONS sip:bob@example.com from <sip:alice@example.com>;tag=1 call-id one failed 480 from sip:bob@192.0.2.4, the only answer\ntarget 0 480 at 20\nfork 3 1\n",
         ),
     ),
     (
         33_000,
         Turn::Writes(
-            "1 OPTIONS sip:carol@example.com from <sip:alice@example.com>;tag=1 call-id two failed 404 from sip:carol@192.0.2.5, earliest among 4xx, 1 other stored\nfork 3 2\n",
+            "1 OPTIONS sip:carol@example.com from <sip:alice@example.com>;tag=1 call-id two failed 404 from sip:carol@192.0.2.5, earliest among 4xx, 1 other stored\ntarget 0 404 at 10\ntarget 1 486 at 20\nfork 3 2\n",
         ),
     ),
     (33_000, Turn::WritesNothing),
@@ -300,6 +300,13 @@ const NO_JOURNAL: &[Moment] = &[
     ),
     (32_020, Turn::Passes(20)),
     (32_020, Turn::Keeps(1, 2)),
+    (
+        32_020,
+        Turn::ToldOf(
+            1,
+            "1 32020 192.0.2.1:5060 OPTIONS bob 408\ntarget 0 408 since - left - sip:bob@192.0.2.4\n",
+        ),
+    ),
     (32_020, Turn::Leaves),
     (32_020, Turn::WritesNothing),
     (32_020, Turn::Counts("forkproxy_calls_journaled_total 0")),

@@ -37,8 +37,12 @@ mod racing;
 #[cfg(test)]
 mod refused;
 #[cfg(test)]
+mod ringing;
+#[cfg(test)]
 mod telling;
 #[cfg(test)]
 mod texts;
+#[cfg(test)]
+mod told;
 #[cfg(test)]
 mod wired;

@@ -54,7 +54,7 @@ const METRICS: &str = "127.0.0.1:47424";
 
 /// How the line of the call that failed ends, and its listing begins.
 const FAILED: &str =
-    " call-id two failed 486 from sip:bob@127.0.0.1:47422, the only answer\nfork 3 1\n";
+    " call-id two failed 486 from sip:bob@127.0.0.1:47422, the only answer\ntarget 0 rang 180 at ";
 
 /// What a scraper gets.
 fn scraped<R: Net>(rt: &R, alloc: Global) -> io::Result<Vec<u8>> {
@@ -177,6 +177,7 @@ fn has_journal<R: Files>(rt: &R, alloc: Global) -> bool {
         Ok(text) => {
             has_line(text.as_slice(), " call-id one answered\n")
                 && has_line(text.as_slice(), FAILED)
+                && has_line(text.as_slice(), "\nfork 3 1\n")
         }
         Err(_) => false,
     }

@@ -60,6 +60,10 @@ pub enum Turn {
     Reloads(&'static [u8], Result<(), DaemonFault>),
     /// So many calls are kept, of so many that were opened.
     Keeps(u64, u64),
+    /// Of the calls that are open, from this number on, this is told at the control socket.
+    Told(u64, &'static str),
+    /// Of the call of this number this is told.
+    ToldOf(u64, &'static str),
 }
 
 /// A moment in milliseconds, and what happens then.
@@ -72,6 +76,8 @@ pub struct Served {
     pub own_port: bool,
     pub most_calls: u64,
     pub has_journal: bool,
+    /// The longest time of each branch in milliseconds, where it is not that of RFC 3261 section 16.6.
+    pub ring: Option<u64>,
 }
 
 /// With a journal, and without what an option asks for.
@@ -80,6 +86,7 @@ pub const PLAIN: Served = Served {
     own_port: false,
     most_calls: 1_000,
     has_journal: true,
+    ring: None,
 };
 
 /// The number of its run.
@@ -95,6 +102,10 @@ pub fn service_over<A: Allocator + Copy>(
     served: Served,
 ) -> Option<Service<A>> {
     let setup = read_text(memory.alloc, text, NUMBER).ok()?;
+    let setup = match served.ring {
+        Some(longest) => setup.ringing(longest),
+        None => setup,
+    };
     let terms = Terms {
         identity: Identity::of(&setup),
         number: NUMBER,
@@ -348,6 +359,24 @@ impl<A: Allocator + Copy> Played<A> {
         }
     }
 
+    /// Whether this is told of the calls that are open, from this number on.
+    fn tells<R: Wait>(&self, rt: &R, now: u64, first: u64, text: &str) -> bool {
+        let mut told = Vec::new(self.alloc);
+        match self.service.append_calls(rt, first, now, &mut told) {
+            Ok(()) => told.as_slice() == text.as_bytes(),
+            Err(_) => false,
+        }
+    }
+
+    /// Whether this is told of the call of this number.
+    fn tells_of<R: Wait>(&self, rt: &R, now: u64, number: u64, text: &str) -> bool {
+        let mut told = Vec::new(self.alloc);
+        match self.service.append_call(rt, number, now, &mut told) {
+            Ok(()) => told.as_slice() == text.as_bytes(),
+            Err(_) => false,
+        }
+    }
+
     fn writes_nothing<R: Wait>(&mut self, rt: &R) -> bool {
         self.take_blocks(rt) && self.blocks.is_empty()
     }
@@ -394,6 +423,8 @@ impl<A: Allocator + Copy> Played<A> {
             Turn::Keeps(held, opened) => {
                 self.service.held(rt) == held && self.service.opened(rt) == opened
             }
+            Turn::Told(first, text) => self.tells(rt, now, first, text),
+            Turn::ToldOf(number, text) => self.tells_of(rt, now, number, text),
             _ => false,
         }
     }

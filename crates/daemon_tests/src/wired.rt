@@ -249,7 +249,7 @@ fn plays<R: Net + Files + Clock>(rt: &R, alloc: Global) -> &'static str {
 
 /// What the journal tells of each call.
 const BLOCKS: [&str; 4] = [
-    " call-id one failed 486 from sip:bob@127.0.0.1:47452, the only answer\nfork 3 1\n",
+    " call-id one failed 486 from sip:bob@127.0.0.1:47452, the only answer\ntarget 0 486 at ",
     " call-id two answered\n",
     " call-id silent open\n",
     " call-id ringing open\n",

@@ -1,6 +1,6 @@
 //! What a line at the control socket says.
 ghost use Rattle.std.specs.Prelude.{◌≡◌, ◌≢◌, ◌↔◌, ◌++◌, ℕ, List, codes, IfSome, IfNone};
-ghost use Rattle.fork_control.specs.Commands.{IsGet, IsStop};
+ghost use Rattle.fork_control.specs.Commands.{IsCall, IsCalls, IsCallsFrom, IsGet, IsNumbered, IsStop};
 ghost use Rattle.fork_control.specs.declared.command.Command.TheVariants as command;
 
 use sip_lex::read_plain_number;
@@ -17,6 +17,10 @@ pub enum Command {
     Reload,
     /// To write the counters.
     Stats,
+    /// To tell of the calls that are open, from this number on.
+    Calls(u64),
+    /// To tell of the call of this number.
+    Call(u64),
     /// The same, as an answer of HTTP.
     Metrics,
     /// Nothing that is known.
@@ -31,37 +35,65 @@ fn behind<'a>(line: &'a [u8], front: &[u8]) -> Option<&'a [u8]>
     line.strip_prefix(front)
 }
 
+/// The number behind a text at the front of a line, in decimal without a leading zero, where it is at most `limit`.
+fn number_behind(line: &[u8], front: &[u8], limit: u64) -> Option<u64>
+    ensures some { IfSome result (IsNumbered front.now limit line.now) }
+    ensures none { IfNone result ((number : ℕ) → IsNumbered front.now limit line.now number → ⊥) }
+{
+    read_plain_number(behind(line, front)?, limit)
+}
+
+/// Reads a command that has a number behind its word.
+fn read_numbered(line: &[u8]) -> Command
+    ensures stop { (seconds : ℕ) → (result ≡ command.Stop seconds) ↔ IsStop line.now seconds }
+    ensures calls { (from : ℕ) → (result ≡ command.Calls from) ↔ IsCallsFrom line.now from }
+    ensures call { (number : ℕ) → (result ≡ command.Call number) ↔ IsCall line.now number }
+    ensures other { (result ≢ command.Reload) × (result ≢ command.Stats) × (result ≢ command.Metrics) }
+{
+    if let Some(seconds) = number_behind(line, b"stop ", MOST_SECONDS) {
+        return Command::Stop(seconds);
+    }
+    if let Some(from) = number_behind(line, b"calls ", u64::MAX) {
+        return Command::Calls(from);
+    }
+    match number_behind(line, b"call ", u64::MAX) {
+        Some(number) => Command::Call(number),
+        None => Command::Unknown,
+    }
+}
+
 /// Reads a command that has something behind its word.
 fn read_long(line: &[u8]) -> Command
     ensures get { (result ≡ command.Metrics) ↔ IsGet line.now }
     ensures stop { (seconds : ℕ) → (result ≡ command.Stop seconds) ↔ IsStop line.now seconds }
+    ensures calls { (from : ℕ) → (result ≡ command.Calls from) ↔ IsCallsFrom line.now from }
+    ensures call { (number : ℕ) → (result ≡ command.Call number) ↔ IsCall line.now number }
     ensures other { (result ≢ command.Reload) × (result ≢ command.Stats) }
 {
     if behind(line, b"GET ").is_some() {
         return Command::Metrics;
     }
-    let Some(digits) = behind(line, b"stop ") else {
-        return Command::Unknown;
-    };
-    match read_plain_number(digits, MOST_SECONDS) {
-        Some(seconds) => Command::Stop(seconds),
-        None => Command::Unknown,
-    }
+    read_numbered(line)
 }
 
-/// Reads a line without its end: `stop SECONDS` in decimal without a leading zero, of a day at most; `reload`; `stats`; or the
-/// first line of a GET of HTTP. `Unknown` for any other text.
+/// Reads a line without its end: `stop SECONDS` in decimal without a leading zero, of a day at most; `reload`; `stats`; `calls`, or `calls
+/// NUMBER`, from which number on they are told of; `call NUMBER`; or the first line of a GET of HTTP. `Unknown` for any other text.
 pub fn read_command(line: &[u8]) -> Command
     ensures reload { (result ≡ command.Reload) ↔ (line.now ≡ codes "reload") }
     ensures stats { (result ≡ command.Stats) ↔ (line.now ≡ codes "stats") }
     ensures get { (result ≡ command.Metrics) ↔ IsGet line.now }
     ensures stop { (seconds : ℕ) → (result ≡ command.Stop seconds) ↔ IsStop line.now seconds }
+    ensures calls { (from : ℕ) → (result ≡ command.Calls from) ↔ IsCalls line.now from }
+    ensures call { (number : ℕ) → (result ≡ command.Call number) ↔ IsCall line.now number }
 {
     if line == b"reload".as_slice() {
         return Command::Reload;
     }
     if line == b"stats".as_slice() {
         return Command::Stats;
+    }
+    if line == b"calls".as_slice() {
+        return Command::Calls(0);
     }
     read_long(line)
 }

@@ -21,6 +21,21 @@ pub trait Controlled {
     /// Want of memory for the text.
     fn stats(&self) -> Result<String<Global>, io::Error>;
 
+    /// A line for each call that is open, from this number on, as many as one answer tells of, and a last line that says from which number on
+    /// there may be more.
+    ///
+    /// # Errors
+    ///
+    /// Want of memory for the text.
+    fn calls(&self, from: u64) -> Result<Vec<u8>, io::Error>;
+
+    /// The line of the call of this number, and one for each of its branches; where no such call is kept, a line that says so.
+    ///
+    /// # Errors
+    ///
+    /// Want of memory for the text.
+    fn call(&self, number: u64) -> Result<Vec<u8>, io::Error>;
+
     /// Whether it has ended.
     fn has_ended(&self) -> bool;
 }

@@ -97,6 +97,8 @@ impl<'a, R: Clock, C: Controlled> Desk<'a, R, C> {
             }
             Command::Reload => Answer::new(b"", self.controlled.reload()?.into_bytes()),
             Command::Stats => Answer::new(b"", self.controlled.stats()?.into_bytes()),
+            Command::Calls(from) => Answer::new(b"", self.controlled.calls(from)?),
+            Command::Call(number) => Answer::new(b"", self.controlled.call(number)?),
             Command::Metrics => Answer::new(HEAD, self.controlled.stats()?.into_bytes()),
             Command::Unknown => Answer::fixed(self.alloc, b"unknown\n"),
         };

@@ -88,6 +88,22 @@ impl<'a, R: Wait + Clock + ProxyFiles> Controlled for Control<'a, R> {
         }
     }
 
+    fn calls(&self, from: u64) -> Result<Vec<u8>, io::Error> {
+        let proxy = self.proxy;
+        let mut text = Vec::new(proxy.alloc);
+        let now = proxy.millis(self.rt);
+        proxy.service.append_calls(self.rt, from, now, &mut text)?;
+        Ok(text)
+    }
+
+    fn call(&self, number: u64) -> Result<Vec<u8>, io::Error> {
+        let proxy = self.proxy;
+        let mut text = Vec::new(proxy.alloc);
+        let now = proxy.millis(self.rt);
+        proxy.service.append_call(self.rt, number, now, &mut text)?;
+        Ok(text)
+    }
+
     fn has_ended(&self) -> bool {
         self.proxy.service.is_in(State::Ended)
     }

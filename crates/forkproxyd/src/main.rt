@@ -45,17 +45,17 @@ fn tell_command<'a>(alloc: Global) -> Result<Command<'a>, AllocError> {
         .help("the control socket's file");
     let what = Arg::new(alloc, "what")
         .required(true)
-        .help("stop, reload or stats");
-    let seconds = Arg::new(alloc, "seconds")
-        .default_value(SECONDS)
-        .help("for how many seconds open calls may go on after stop");
+        .help("stop, reload, stats, calls or call");
+    let number = Arg::new(alloc, "number").help(
+        "for how many seconds open calls may go on after stop: 30 if left out; from which number on calls tells of calls: 0 if left out; of which call it is told",
+    );
     Command::new(alloc, "tell")
         .about(
-            "tells a proxy that runs to stop, to reload its configuration, or to write its counters",
+            "tells a proxy that runs to stop, to reload its configuration, to write its counters, or to tell of the calls that are open or of one call",
         )
         .arg(path)?
         .arg(what)?
-        .arg(seconds)
+        .arg(number)
 }
 
 /// An argument that names a file.
@@ -168,22 +168,39 @@ fn ended(rt: &HostRuntime, ran: Result<(), DaemonFault>) -> u8 {
     }
 }
 
-/// The line that tells a proxy this, and how long its answer is waited for: to end, that is as long as calls may go on, and 40 seconds more.
+/// For how many seconds the answer to a word and a number is waited for: to end, that is as long as calls may go on, and 40 seconds more.
+fn longest_for(what: &str, number: &str) -> u64 {
+    if what == "stop" {
+        number
+            .parse::<u64>()
+            .unwrap_or(0)
+            .saturating_add(LONGEST_END)
+    } else {
+        LONGEST_ANSWER
+    }
+}
+
+/// The line that tells a proxy this, and how long its answer is waited for.
 fn line_of(
     alloc: Global,
     what: &str,
-    seconds: &str,
+    number: Option<&str>,
 ) -> Result<(String<Global>, Duration), AllocError> {
-    if what != "stop" {
-        let line = String::from_str(alloc, what)?;
-        return Ok((line, Duration::from_secs(LONGEST_ANSWER)));
+    let number = if what == "stop" {
+        Some(number.unwrap_or(SECONDS))
+    } else {
+        number
+    };
+    match number {
+        Some(number) => {
+            let longest = Duration::from_secs(longest_for(what, number));
+            Ok((format!(in alloc; "{what} {number}")?, longest))
+        }
+        None => {
+            let longest = Duration::from_secs(LONGEST_ANSWER);
+            Ok((String::from_str(alloc, what)?, longest))
+        }
     }
-    let line = format!(in alloc; "stop {seconds}")?;
-    let longest = seconds
-        .parse::<u64>()
-        .unwrap_or(0)
-        .saturating_add(LONGEST_END);
-    Ok((line, Duration::from_secs(longest)))
 }
 
 /// How the program ends after this answer of a proxy: 1 where it says that it did not do what it was told, or does not wait for the end.
@@ -202,14 +219,11 @@ fn status_of(answer: &[u8]) -> u8 {
 
 /// Tells a proxy that runs, and prints what it answers.
 fn told(rt: &HostRuntime, matches: &ArgMatches<'_>) -> u8 {
-    let (Some(path), Some(what), Some(seconds)) = (
-        matches.get_str("path"),
-        matches.get_str("what"),
-        matches.get_str("seconds"),
-    ) else {
+    let (Some(path), Some(what)) = (matches.get_str("path"), matches.get_str("what")) else {
         return USAGE;
     };
-    let Ok((line, limit)) = line_of(rt.alloc(), what, seconds) else {
+    let number = matches.get_str("number");
+    let Ok((line, limit)) = line_of(rt.alloc(), what, number) else {
         return DaemonFault::NoMemory.status();
     };
     let mut answer = Vec::new(rt.alloc());

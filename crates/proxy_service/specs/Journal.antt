@@ -8,6 +8,7 @@ use Rattle.sip_via.specs.ViaParts.{or_empty}
 use Rattle.sip_route.specs.Loop.{request_uri}
 use Rattle.call_model.specs.Call.{Call}
 use Rattle.call_journal.specs.declared.head.Head.{Head}
+use Rattle.call_journal.specs.declared.notes.Note.{Note}
 use Rattle.call_journal.specs.Block.{Journals}
 
 -- the line tells of the request that opened the call
@@ -19,6 +20,6 @@ pub record IsHeadOf (number : ℕ) (request : MessageText) (time : ℕ) (h : Hea
   pub caller : h.caller.now ≡ or_empty (value_of From request.headers)
   pub call_id : value_of CallId request.headers ≡ Some h.call_id.now
 
-abbrev pub WritesDown : Call → ℕ → List ℕ → List ℕ → Type 0
-WritesDown call time old new =
-    (h : Head) × IsHeadOf call.opened.number call.opened.request time h × Journals h (core_of call.log).table old new
+abbrev pub WritesDown : Call → ℕ → List Note → List ℕ → List ℕ → Type 0
+WritesDown call time notes old new =
+    (h : Head) × IsHeadOf call.opened.number call.opened.request time h × Journals h (core_of call.log).table notes old new

@@ -2,6 +2,7 @@ pub mod Draining
 pub mod Handling
 pub mod Journal
 pub mod Next
+pub mod Noting
 pub mod Queue
 pub mod Quota
 pub mod Setups

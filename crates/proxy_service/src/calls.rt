@@ -4,6 +4,7 @@ ghost use Rattle.std.specs.Bool.{OnFalse};
 ghost use Rattle.fork_model.specs.Log.{core_of};
 ghost use Rattle.fork_model.specs.Table.{is_finished};
 
+use crate::notes::NoteTables;
 use crate::refusals::Refusals;
 use crate::walk::Walk;
 use call_table::Shelf;
@@ -36,12 +37,14 @@ pub(crate) struct Calls<A: Allocator + Copy> {
     /// The calls that lack memory.
     pub(crate) refusals: Refusals,
     pub(crate) walk: Mutex<Walk>,
+    /// What is noted of the calls.
+    pub(crate) notes: NoteTables,
     /// No call below this number is open.
     unopened: AtomicU64,
 }
 
 /// Whether a call is open: a branch has not ended, or something is owed.
-fn is_open<A: Allocator + Clone>(call: &mut Call<A>) -> bool
+pub(crate) fn is_open<A: Allocator + Clone>(call: &mut Call<A>) -> bool
     ensures closed { OnFalse result (is_finished (core_of call.old.log).table.rows ≡ true) }
     ensures same { call.new ≡ call.old }
 {
@@ -64,6 +67,7 @@ impl<A: Allocator + Copy> Calls<A> {
             finished,
             refusals: Refusals::new(heap)?,
             walk: Mutex::new(Walk::new()),
+            notes: NoteTables::new(heap)?,
             unopened: AtomicU64::new(0),
         })
     }

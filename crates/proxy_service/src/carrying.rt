@@ -7,8 +7,9 @@ ghost use Rattle.fork_model.specs.Log.{core_of};
 ghost use Rattle.proxy_service.specs.Next.{EndsBy, IsNext};
 
 use crate::answers::AnswerPort;
-use crate::journal::append_block;
+use crate::notes::NoteTables;
 use crate::service::Service;
+use crate::targets::TargetSet;
 use call_over::calls_that_are_over_are_quiet;
 use call_table::Removal;
 use fork_call::{Call, Port, carry};
@@ -45,6 +46,13 @@ pub(crate) enum Next {
     Over(Option<u16>),
     /// It lacked memory.
     Refused,
+}
+
+/// A look at a call at a moment, in milliseconds, and whether it is the first one.
+#[derive(Clone, Copy)]
+struct Visit {
+    now: u64,
+    is_first: bool,
 }
 
 /// Seconds since 1970; 0 where the clock cannot be read.
@@ -87,10 +95,16 @@ fn may_be_forgotten<A: Allocator + Clone>(call: &mut Call<A>) -> bool
 }
 
 /// Appends the block of a call, or nothing for want of memory.
-fn write_block<A: Allocator + Clone>(call: &mut Call<A>, time: u64, block: &mut Vec<u8, A>)
+fn write_block<R: Wait, A: Allocator + Clone>(
+    rt: &R,
+    notes: &NoteTables,
+    call: &mut Call<A>,
+    time: u64,
+    block: &mut Vec<u8, A>,
+)
     ensures { call.new.opened.number ≡ call.old.opened.number }
 {
-    let _ = append_block(call, time, block);
+    let _ = notes.append_block(rt, call, time, block);
 }
 
 impl<A: Allocator + Copy> Service<A> {
@@ -127,14 +141,14 @@ impl<A: Allocator + Copy> Service<A> {
 
     /// What is to be done next with a call that was carried. Of one that is over the block for the journal is appended, if there is a
     /// journal, or nothing for want of memory.
-    fn left<R: Clock>(&self, rt: &R, call: &Call<A>, block: &mut Vec<u8, A>) -> Next
+    fn left<R: Wait + Clock>(&self, rt: &R, call: &Call<A>, block: &mut Vec<u8, A>) -> Next
         ensures { IsNext call.now result }
     {
         let next = next_of(call);
         if !matches!(next, Next::Over(_)) {
             self.count_finished(call);
         } else if self.terms.has_journal {
-            let _ = append_block(call, seconds(rt), block);
+            let _ = self.calls.notes.append_block(rt, call, seconds(rt), block);
         }
         next
     }
@@ -146,13 +160,28 @@ impl<A: Allocator + Copy> Service<A> {
         }
     }
 
+    /// Notes that a call was opened, and, where there is a journal, what its book has more and the CANCELs that went out.
+    fn note_call<R: Wait>(&self, rt: &R, call: &Call<A>, visit: Visit, cancels: Option<TargetSet>) {
+        let notes = &self.calls.notes;
+        match cancels {
+            Some(cancels) => notes.note(rt, call, cancels, visit.now),
+            None if visit.is_first => notes.open(rt, call.number(), visit.now),
+            None => {}
+        }
+    }
+
+    /// The targets to which a CANCEL went, where nothing was sent yet and that is noted.
+    fn no_cancels(&self) -> Option<TargetSet> {
+        self.terms.has_journal.then_some(TargetSet::none())
+    }
+
     /// Carries a call, and answers what is to be done next.
-    fn carried<R: Clock, P: Port>(
+    fn carried<R: Wait + Clock, P: Port>(
         &self,
         rt: &R,
         call: &mut Call<A>,
         port: &mut P,
-        now: u64,
+        visit: Visit,
         block: &mut Vec<u8, A>,
     ) -> Next
         ensures { call.new.opened.number ≡ call.old.opened.number }
@@ -160,9 +189,12 @@ impl<A: Allocator + Copy> Service<A> {
         let mut answers = AnswerPort {
             port,
             has_answered: false,
+            cancels: self.no_cancels(),
         };
+        let now = visit.now;
         let carried = carry(call, &mut answers, now);
         self.note_answer(call, answers.has_answered, now);
+        self.note_call(rt, call, visit, answers.cancels);
         match carried {
             Ok(carried) if !carried.more => self.left(rt, call, block),
             Ok(_) => Next::At(now),
@@ -198,6 +230,7 @@ impl<A: Allocator + Copy> Service<A> {
         match self.calls.shelf.remove_if(rt, number, may_be_forgotten) {
             Removal::Removed => {
                 self.quota.forget(rt);
+                self.calls.notes.forget(rt, number);
                 self.count_forgotten(number, failure);
                 self.write_down(rt, block);
             }
@@ -231,6 +264,25 @@ impl<A: Allocator + Copy> Service<A> {
         }
     }
 
+    /// Carries the call of this number; one that is over is written down and forgotten.
+    fn carry_visited<R: Wait + Clock, P: Port>(
+        &self,
+        rt: &R,
+        port: &mut P,
+        number: u64,
+        visit: Visit,
+    ) {
+        let mut block = Vec::new(self.alloc);
+        let next = self.calls.shelf.with(
+            rt,
+            number,
+            |call| self.carried(rt, call, port, visit, &mut block),
+        );
+        if let Some(next) = next {
+            self.follow(rt, number, next, block.as_slice(), visit.now);
+        }
+    }
+
     /// Carries the call of this number at this moment, in milliseconds; one that is over is written down and forgotten.
     pub(crate) fn carry<R: Wait + Clock, P: Port>(
         &self,
@@ -239,15 +291,31 @@ impl<A: Allocator + Copy> Service<A> {
         number: u64,
         now: u64,
     ) {
-        let mut block = Vec::new(self.alloc);
-        let next = self.calls.shelf.with(
+        let is_first = false;
+        self.carry_visited(rt, port, number, Visit { now, is_first });
+    }
+
+    /// Carries the call of this number at the moment at which it was opened, in milliseconds.
+    pub(crate) fn carry_opened<R: Wait + Clock, P: Port>(
+        &self,
+        rt: &R,
+        port: &mut P,
+        number: u64,
+        now: u64,
+    ) {
+        let is_first = true;
+        self.carry_visited(rt, port, number, Visit { now, is_first });
+    }
+
+    /// Appends the block of the call of this number, or nothing for want of memory, and says whether such a call is kept.
+    fn write_left<R: Wait>(&self, rt: &R, number: u64, time: u64, block: &mut Vec<u8, A>) -> bool {
+        let notes = &self.calls.notes;
+        let written = self.calls.shelf.with(
             rt,
             number,
-            |call| self.carried(rt, call, port, now, &mut block),
+            |call| write_block(rt, notes, call, time, block),
         );
-        if let Some(next) = next {
-            self.follow(rt, number, next, block.as_slice(), now);
-        }
+        written.is_some()
     }
 
     /// Rests, so many times at most, until there is room for a block of so many bytes, and answers how often it may rest from then on.
@@ -277,11 +345,7 @@ impl<A: Allocator + Copy> Service<A> {
                 return;
             };
             let mut block = Vec::new(self.alloc);
-            let listed = self
-                .calls
-                .shelf
-                .with(rt, number, |call| write_block(call, time, &mut block));
-            if listed.is_some() {
+            if self.write_left(rt, number, time, &mut block) {
                 rests = self.await_room(rt, block.len(), rests);
                 self.write_down(rt, block.as_slice());
             }

@@ -3,7 +3,7 @@ ghost use Rattle.std.specs.Prelude.{◌≡◌, OnErr, OnOk, codes, unwrap_or};
 ghost use Rattle.sip_text.specs.Text.{method_in};
 ghost use Rattle.proxy_service.specs.Journal.{WritesDown};
 
-use call_journal::{Head, append_call};
+use call_journal::{Head, Note, append_call};
 use fork_call::Call;
 use sip_route::request_uri;
 use sip_text::Message;
@@ -17,7 +17,7 @@ fn method_of<A: Allocator>(request: &Message<A>) -> &[u8]
     request.method().unwrap_or(b"-")
 }
 
-/// Appends the block of a call that ends at this time, in seconds since 1970 (see [`append_call`]).
+/// Appends the block of a call that ends at this time, in seconds since 1970, with what is noted of its targets (see [`append_call`]).
 ///
 /// # Errors
 ///
@@ -25,9 +25,10 @@ fn method_of<A: Allocator>(request: &Message<A>) -> &[u8]
 pub fn append_block<A: Allocator + Clone>(
     call: &Call<A>,
     time: u64,
+    notes: &[Note],
     block: &mut Vec<u8, A>,
 ) -> Result<(), AllocError>
-    ensures ok { OnOk result (WritesDown call.now time block.old.items block.new.items) }
+    ensures ok { OnOk result (WritesDown call.now time notes.now block.old.items block.new.items) }
     ensures err { OnErr result (block.new.items ≡ block.old.items) }
 {
     let request = call.request();
@@ -39,5 +40,5 @@ pub fn append_block<A: Allocator + Clone>(
         caller: first_value(request, b"from"),
         call_id: request.call_id(),
     };
-    append_call(block, &head, call.book().context())
+    append_call(block, &head, call.book().context(), notes)
 }

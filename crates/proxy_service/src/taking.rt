@@ -36,7 +36,7 @@ impl<A: Allocator + Copy> Service<A> {
             Handled::Opened(number) => {
                 self.quota.settle();
                 self.counts.calls.opened.add(1);
-                self.carry(rt, port, number, now);
+                self.carry_opened(rt, port, number, now);
             }
             Handled::Delivered(number) => {
                 self.counts.datagrams.delivered.add(1);

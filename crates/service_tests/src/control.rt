@@ -37,6 +37,14 @@ impl Controlled for Program {
         Ok(format!(in self.alloc; "calls 0\n")?)
     }
 
+    fn calls(&self, from: u64) -> Result<Vec<u8>, io::Error> {
+        Ok(format!(in self.alloc; "calls from {from}\n")?.into_bytes())
+    }
+
+    fn call(&self, number: u64) -> Result<Vec<u8>, io::Error> {
+        Ok(format!(in self.alloc; "call {number}\n")?.into_bytes())
+    }
+
     fn has_ended(&self) -> bool {
         self.state.load(Ordering::SeqCst) != SERVING
     }
@@ -96,8 +104,11 @@ fn opened<R: Net + Files>(rt: &R, path: &str) -> io::Result<UnixListener> {
     UnixListener::bind(rt, path)
 }
 
-const LINES: [(&str, &str); 5] = [
+const LINES: [(&str, &str); 8] = [
     ("stats", "calls 0\n"),
+    ("calls", "calls from 0\n"),
+    ("calls 300", "calls from 300\n"),
+    ("call 17", "call 17\n"),
     ("else", "unknown\n"),
     (
         "GET / HTTP/1.1\r\nHost: x\r\n\r",

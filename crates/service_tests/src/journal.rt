@@ -1,7 +1,8 @@
 //! What is written down of a call.
 use crate::holds::holds;
 use call_journal::{
-    Head, append_call, failed_calls_are_listed_right, heads_are_lines, reasons_are_right,
+    BranchTimes, CallShown, Happening, Head, Note, append_branch_line, append_call,
+    append_call_line, failed_calls_are_listed_right, heads_are_lines, reasons_are_right, since,
 };
 use fork_context::{Answer, Context, Event, Kind, Target};
 use fork_rank::{RingStatus, Rules, Status};
@@ -72,7 +73,7 @@ fn block_of(alloc: Global, count: u8, events: &[(u16, u16)]) -> Option<Vec<u8>> 
         }
     }
     let mut block = Vec::new(alloc);
-    match append_call(&mut block, &HEAD, &context) {
+    match append_call(&mut block, &HEAD, &context, &[]) {
         Ok(()) => Some(block),
         Err(_) => None,
     }
@@ -191,5 +192,160 @@ fn the_line_says_why_an_answer_went_up(rt: HostRuntime) {
     ];
     for (count, events, end) in cases {
         holds(&rt, is_written(rt.alloc(), count, events, end), end);
+    }
+}
+
+/// What is noted of these targets, of which this happened, each a tenth of a second behind the one before.
+fn notes_of(alloc: Global, events: &[(u16, u16)]) -> Option<Vec<Note>> {
+    let mut notes = Vec::new(alloc);
+    let mut at = 0;
+    for (n, code) in events {
+        at += 100;
+        let event = event_of(alloc, *n, *code)?;
+        if let Some(note) = Note::of(&event, at)
+            && notes.push(note).is_err()
+        {
+            return None;
+        }
+    }
+    Some(notes)
+}
+
+/// Whether this is written down of a call that is open, to three targets of which this is noted.
+fn are_lines(alloc: Global, notes: &[Note], lines: &str) -> bool {
+    let mut block = Vec::new(alloc);
+    let Some(context) = context_of(alloc, 3) else {
+        return false;
+    };
+    if append_call(&mut block, &HEAD, &context, notes).is_err() {
+        return false;
+    }
+    match block.strip_prefix(LINE.as_bytes()) {
+        Some(rest) => rest.strip_prefix(b" open\n") == Some(lines.as_bytes()),
+        None => false,
+    }
+}
+
+/// Whether this is written down where this happened to targets, each a tenth of a second behind the one before.
+fn have_lines(alloc: Global, events: &[(u16, u16)], lines: &str) -> bool {
+    match notes_of(alloc, events) {
+        Some(notes) => are_lines(alloc, notes.as_slice(), lines),
+        None => false,
+    }
+}
+
+/// A note of target 0.
+fn note(what: Happening, at: u64) -> Note {
+    Note {
+        target: 0,
+        what,
+        at,
+    }
+}
+
+#[test]
+fn each_target_has_a_line_of_what_it_did(rt: HostRuntime) {
+    let cases: [(&[(u16, u16)], &str); 4] = [
+        (&[(0, CANCEL)], ""),
+        (
+            &[(2, 180), (0, 100), (2, 486), (0, TIMEOUT)],
+            "target 0 rang 100 at 200, timed out at 400\ntarget 2 rang 180 at 100, 486 at 300\n",
+        ),
+        (
+            &[(1, 183), (0, FAULT), (1, 200)],
+            "target 0 transport error at 200\ntarget 1 rang 183 at 100, answered 200 at 300\n",
+        ),
+        (
+            &[(0, 180), (0, GIVE_UP)],
+            "target 0 rang 180 at 100, given up at 200\n",
+        ),
+    ];
+    for (events, lines) in cases {
+        holds(&rt, have_lines(rt.alloc(), events, lines), lines);
+    }
+    let notes = [
+        note(Happening::Rang(180), 120),
+        note(Happening::Cancelled, 15_000),
+        note(Happening::Answered(487), 15_020),
+    ];
+    let line = "target 0 rang 180 at 120, cancelled at 15000, 487 at 15020\n";
+    holds(&rt, are_lines(rt.alloc(), &notes, line), line);
+}
+
+/// What an operator is told of a call to two targets to which this happened, a tenth of a second apart: its line, and that of target 0.
+fn told_of(alloc: Global, events: &[(u16, u16)]) -> Option<Vec<u8>> {
+    let mut context = context_of(alloc, 2)?;
+    for (n, code) in events {
+        if !is_posted(alloc, &mut context, *n, *code) {
+            return None;
+        }
+    }
+    let shown = CallShown {
+        number: 17,
+        age: Some(5_230),
+        address: [192, 0, 2, 7],
+        port: 5061,
+        method: b"INVITE",
+        user: b"b ob",
+    };
+    let notes = notes_of(alloc, events)?;
+    let state = context.look(0)?.row.state;
+    let times = BranchTimes {
+        since: since(notes.as_slice(), 0, state),
+        left: None,
+    };
+    let mut told = Vec::new(alloc);
+    append_call_line(&mut told, &shown, &context).ok()?;
+    append_branch_line(&mut told, &context, 0, times).ok()?;
+    Some(told)
+}
+
+/// Whether this is told of such a call.
+fn is_told(alloc: Global, events: &[(u16, u16)], states: &str, branch: &str) -> bool {
+    let Some(told) = told_of(alloc, events) else {
+        return false;
+    };
+    let Ok(wanted) = format!(in alloc;
+        "17 5230 192.0.2.7:5061 INVITE b.ob {states}\ntarget 0 {branch} sip:a\n"
+    ) else {
+        return false;
+    };
+    told.as_slice() == wanted.as_bytes()
+}
+
+#[test]
+fn an_operator_is_told_where_each_branch_stands(rt: HostRuntime) {
+    let cases: [(&[(u16, u16)], &str, &str); 8] = [
+        (&[], "calling calling", "calling since - left -"),
+        (
+            &[(0, 180), (0, 180)],
+            "proceeding calling",
+            "proceeding since 100 left -",
+        ),
+        (
+            &[(0, 180), (1, 486), (0, 603)],
+            "603 486",
+            "603 since 300 left -",
+        ),
+        (
+            &[(0, 180), (0, 200)],
+            "answered calling",
+            "answered since 200 left -",
+        ),
+        (&[(0, TIMEOUT)], "408 calling", "408 since 100 left -"),
+        (&[(0, FAULT)], "503 calling", "503 since 100 left -"),
+        (
+            &[(0, 180), (0, CANCEL)],
+            "cancelled calling",
+            "cancelled since - left -",
+        ),
+        (
+            &[(0, 180), (0, CANCEL), (0, GIVE_UP)],
+            "silent calling",
+            "silent since 300 left -",
+        ),
+    ];
+    for (events, states, branch) in cases {
+        holds(&rt, is_told(rt.alloc(), events, states, branch), branch);
     }
 }

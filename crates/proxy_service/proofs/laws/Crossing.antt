@@ -18,6 +18,7 @@ use Rattle.proxy_config.proofs.laws.Crossing as setup
 use Rattle.proxy_config.specs.contracts.setup.Setup.{the_row as setup_row}
 use Rattle.proxy_service.proofs.terms.Terms.TheSendSync as terms
 use Rattle.proxy_service.proofs.lifetime.Lifetime.TheSendSync as lifetime
+use Rattle.proxy_service.proofs.notes.NoteTables.TheSendSync as notes
 use Rattle.proxy_service.proofs.queue.JournalQueue.TheSendSync as queue
 use Rattle.proxy_service.proofs.refusals.Refusals.TheSendSync as refusals
 use Rattle.proxy_service.proofs.walk.Walk.TheSendSync as walk
@@ -40,7 +41,7 @@ quota_sync = struct_sync (shape quota.the_type) (search (crosses, places.the_sen
 calls_sync : (h : clone.Ghosts heap_row.Denot) → IsSync (calls.the_field heap_row ghosts h).row
 calls_sync h = struct_sync (shape (calls.the_type heap_row ghosts h)) (
   shelf_shared h,
-  (schedule_sync heap_row ghosts send frees, (marks_sync, (refusals.the_field_sync, (search (crosses, walk.the_send), (search (crosses, sendable), tt))))),
+  (schedule_sync heap_row ghosts send frees, (marks_sync, (refusals.the_field_sync, (search (crosses, walk.the_send), (notes.the_field_sync, (search (crosses, sendable), tt)))))),
 )
 
 pub service_sync : (h : clone.Ghosts heap_row.Denot) → IsSync (service.the_field heap_row ghosts h).row

@@ -33,7 +33,7 @@ returns-clause-ok g c =
         caller = c.first_value.ensures ∙ ap (λ (m : MessageText). or_empty (value_of From m.headers)) of_call;
         call_id = ap (λ (m : MessageText). value_of CallId m.headers) (sym of_call) ∙ c.call_id.ensures;
       },
-      subst (λ (core : Core). Journals head core.table c.args.block.now.items c.append_call.new.out.items)
+      subst (λ (core : Core). Journals head core.table c.args.notes.now c.args.block.now.items c.append_call.new.out.items)
           (c.context.ensures.stands ∙ ap core_of c.book.ensures) journals,
     ))
     c.append_call.ensures.ok
