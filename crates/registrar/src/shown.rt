@@ -42,7 +42,11 @@ fn is_item(item: &[u8]) -> bool
 }
 
 /// The value of the line of a contact, for which so many seconds are left.
-fn contact_value<B: Allocator>(alloc: B, item: &[u8], seconds: u64) -> Result<Vec<u8, B>, AllocError>
+fn contact_value<B: Allocator>(
+    alloc: B,
+    item: &[u8],
+    seconds: u64,
+) -> Result<Vec<u8, B>, AllocError>
     ensures { IfOk result (λ value. value.items ≡ item.now ++ (codes ";expires=" ++ decimal seconds)) }
 {
     let mut value = Vec::new(alloc);
