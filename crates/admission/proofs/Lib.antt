@@ -1,0 +1,4 @@
+pub mod Tokens
+pub mod OwnCredentials
+pub mod Opened
+pub mod Once

@@ -1,0 +1,122 @@
+//! Requests that would open a call as rows of a table, and what is decided of each.
+use crate::answers::{Wanted, is_answer};
+use crate::passwords::{Password, line_if_any};
+use crate::requests::{joined, request};
+use crate::world::{SECOND, SECRET, domain, realm, users};
+use admission::{Admission, Arrival, Decision, Rule, decision_of};
+use sip_build::OwnStatus;
+use sip_digest::append_dialog_token;
+use sip_text::Message;
+use sip_uri::Hop;
+use std::alloc::{AllocError, Global};
+
+/// What has to be decided.
+#[derive(Clone, Copy)]
+pub enum Decided {
+    Registers,
+    Opens(Rule),
+    /// An answer of this status, and for whom it is noted that wrong credentials came.
+    Turned(u16, Wanted, Option<&'static [u8]>),
+}
+
+/// The token of a dialog: for which Call-ID, and how many seconds ago.
+#[derive(Clone, Copy)]
+pub struct Token(pub &'static [u8], pub u32);
+
+/// A request that would open a call, and what is decided of it.
+#[derive(Clone, Copy)]
+pub struct Row {
+    pub method: &'static [u8],
+    pub uri: &'static [u8],
+    /// Its lines but those below, each with its end.
+    pub lines: &'static [u8],
+    pub token: Option<Token>,
+    pub password: Option<Password>,
+    pub trusted: bool,
+    pub refusal: Option<OwnStatus>,
+    pub strangers: bool,
+    pub has_place: bool,
+    pub decided: Decided,
+}
+
+/// Where each comes from.
+const SOURCE: [u8; 4] = [198, 51, 100, 7];
+
+/// The Route line of a dialog that went by the proxy.
+fn route_line(alloc: Global, token: Token) -> Result<Vec<u8, Global>, AllocError> {
+    let mut text = Vec::from_slice(alloc, b"Route: <sip:192.0.2.9:5060;lr;d=")?;
+    append_dialog_token(&mut text, &SECRET, token.0, SECOND - token.1 % 1_000_000)?;
+    text.extend_from_slice(b">\r\n")?;
+    Ok(text)
+}
+
+fn route_if_any(alloc: Global, token: Option<Token>) -> Option<Vec<u8, Global>> {
+    match token {
+        None => Some(Vec::new(alloc)),
+        Some(token) => route_line(alloc, token).ok(),
+    }
+}
+
+fn message_of(alloc: Global, row: &Row) -> Option<Message<Global>> {
+    let route = route_if_any(alloc, row.token)?;
+    let password = line_if_any(alloc, b"Proxy-Authorization", row.password, row.method)?;
+    let Ok(start) = joined(alloc, &[row.method, b" ", row.uri, b" SIP/2.0\r\n"]) else {
+        return None;
+    };
+    let Ok(further) = joined(alloc, &[&route, &password]) else {
+        return None;
+    };
+    request(alloc, &start, row.lines, &further)
+}
+
+fn is_name(noted: &Option<Vec<u8>>, wanted: Option<&[u8]>) -> bool {
+    match (noted, wanted) {
+        (None, None) => true,
+        (Some(name), Some(wanted)) => name.as_slice() == wanted,
+        _ => false,
+    }
+}
+
+fn is_decided(alloc: Global, decision: &Decision, wanted: Decided) -> bool {
+    match (decision, wanted) {
+        (Decision::Registers, Decided::Registers) => true,
+        (Decision::Opens(rule), Decided::Opens(wanted)) => *rule == wanted,
+        (Decision::Turned(answer, noted), Decided::Turned(status, lines, name)) => {
+            is_answer(alloc, answer, status, lines, SOURCE) && is_name(noted, name)
+        }
+        _ => false,
+    }
+}
+
+fn arrival_of(row: &Row) -> Arrival {
+    Arrival {
+        source: Hop::over_udp(SOURCE, 5060),
+        second: SECOND,
+        trusted: row.trusted,
+        refusal: row.refusal,
+        has_place: row.has_place,
+    }
+}
+
+/// Whether it is decided of a request what has to be.
+pub fn decides(alloc: Global, has_realm: bool, row: &Row) -> bool {
+    let Some(users) = users(alloc) else {
+        return false;
+    };
+    let Some(realm) = realm(&users) else {
+        return false;
+    };
+    let Some(message) = message_of(alloc, row) else {
+        return false;
+    };
+    let admission = Admission {
+        domain: domain(),
+        realm: if has_realm { Some(&realm) } else { None },
+        secret: &SECRET,
+        serves_strangers: row.strangers,
+    };
+    match decision_of(alloc, &admission, arrival_of(row), &message) {
+        Ok(decision) => is_decided(alloc, &decision, row.decided),
+        Err(_) => false,
+    }
+}

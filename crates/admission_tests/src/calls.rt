@@ -1,0 +1,280 @@
+//! Who may open a call, row by row.
+use crate::answers::Wanted;
+use crate::calling::{Decided, Row, Token, decides};
+use crate::holds::holds;
+use crate::passwords::{BOBS, Password};
+use admission::{Rule, requests_are_decided_in_one_way, strangers_open_nothing_else};
+use sip_build::OwnStatus;
+
+const NOTHING: Wanted = Wanted::Lines(&[]);
+
+const FORBIDDEN: Decided = Decided::Turned(403, NOTHING, None);
+
+const CHALLENGED: Decided = Decided::Turned(
+    407,
+    Wanted::Challenges(b"Proxy-Authenticate", false),
+    None,
+);
+
+const FROM_BOB: &[u8] =
+    b"Via: SIP/2.0/UDP 198.51.100.7;branch=z9hG4bKc1\r\nFrom: Bob <sip:bob@example.com>;tag=1\r\nTo: <sip:x@203.0.113.1>\r\nCall-ID: c1\r\nCSeq: 1 INVITE\r\n";
+
+const FROM_NOBODY: &[u8] =
+    b"Via: SIP/2.0/UDP 198.51.100.7;branch=z9hG4bKc2\r\nFrom: <sip:anonymous@anonymous.invalid>;tag=1\r\nTo: <sip:x@203.0.113.1>\r\nCall-ID: c2\r\nCSeq: 1 INVITE\r\n";
+
+const FROM_EVE: &[u8] =
+    b"Via: SIP/2.0/UDP 198.51.100.7;branch=z9hG4bKc3\r\nFrom: sip:eve@elsewhere.example;tag=1\r\nTo: <sip:bob@example.com>\r\nCall-ID: c3\r\nCSeq: 1 INVITE\r\n";
+
+const BYE: &[u8] =
+    b"Via: SIP/2.0/UDP 198.51.100.7;branch=z9hG4bKc4\r\nFrom: <sip:eve@elsewhere.example>;tag=1\r\nTo: <sip:bob@example.com>;tag=2\r\nCall-ID: c4\r\nCSeq: 2 BYE\r\n";
+
+const REGISTER: &[u8] =
+    b"Via: SIP/2.0/UDP 198.51.100.7;branch=z9hG4bKc5\r\nFrom: <sip:bob@example.com>;tag=1\r\nTo: <sip:bob@example.com>\r\nCall-ID: c5\r\nCSeq: 2 REGISTER\r\n";
+
+/// bob's, for a call to elsewhere.
+const PASSWORD: Password = Password {
+    uri: b"sip:x@203.0.113.1",
+    ..BOBS
+};
+
+const ALICES: Password = Password {
+    name: b"alice",
+    password: b"wonder",
+    ..PASSWORD
+};
+
+/// An INVITE from bob to elsewhere.
+const CALL: Row = Row {
+    method: b"INVITE",
+    uri: b"sip:x@203.0.113.1",
+    lines: FROM_BOB,
+    token: None,
+    password: None,
+    trusted: false,
+    refusal: None,
+    strangers: false,
+    has_place: false,
+    decided: CHALLENGED,
+};
+
+/// The end of a dialog, from elsewhere.
+const END: Row = Row {
+    method: b"BYE",
+    lines: BYE,
+    decided: FORBIDDEN,
+    ..CALL
+};
+
+/// A call from elsewhere to bob.
+const TO_BOB: Row = Row {
+    uri: b"sip:bob@example.com",
+    lines: FROM_EVE,
+    decided: FORBIDDEN,
+    ..CALL
+};
+
+/// Requests, and what each shows.
+const ROWS: &[(Row, &str)] = &[
+    (CALL, "a call without credentials is challenged"),
+    (
+        Row {
+            password: Some(PASSWORD),
+            decided: Decided::Opens(Rule::Password),
+            ..CALL
+        },
+        "a call with the password is opened",
+    ),
+    (
+        Row {
+            password: Some(ALICES),
+            decided: Decided::Turned(403, NOTHING, Some(b"alice")),
+            ..CALL
+        },
+        "the password of another user",
+    ),
+    (
+        Row {
+            password: Some(Password {
+                uri: b"sip:y@203.0.113.1",
+                ..BOBS
+            }),
+            decided: Decided::Turned(400, NOTHING, None),
+            ..CALL
+        },
+        "credentials for another URI",
+    ),
+    (
+        Row {
+            password: Some(Password {
+                password: b"wrong",
+                ..PASSWORD
+            }),
+            decided: Decided::Turned(
+                407,
+                Wanted::Challenges(b"Proxy-Authenticate", false),
+                Some(b"bob"),
+            ),
+            ..CALL
+        },
+        "a wrong password is noted",
+    ),
+    (
+        Row {
+            password: Some(Password {
+                age: 300,
+                ..PASSWORD
+            }),
+            decided: Decided::Turned(407, Wanted::Challenges(b"Proxy-Authenticate", true), None),
+            ..CALL
+        },
+        "an old nonce",
+    ),
+    (
+        Row {
+            lines: FROM_NOBODY,
+            ..CALL
+        },
+        "one who does not say who he is",
+    ),
+    (
+        Row {
+            lines: FROM_NOBODY,
+            password: Some(PASSWORD),
+            decided: Decided::Opens(Rule::Password),
+            ..CALL
+        },
+        "the same with a password",
+    ),
+    (
+        Row {
+            lines: FROM_EVE,
+            decided: FORBIDDEN,
+            ..CALL
+        },
+        "a stranger to elsewhere",
+    ),
+    (
+        Row {
+            lines: FROM_EVE,
+            strangers: true,
+            has_place: true,
+            decided: FORBIDDEN,
+            ..CALL
+        },
+        "a stranger to elsewhere, where strangers are served",
+    ),
+    (TO_BOB, "a stranger to bob"),
+    (
+        Row {
+            has_place: true,
+            ..TO_BOB
+        },
+        "a stranger to bob, where strangers are not served",
+    ),
+    (
+        Row {
+            strangers: true,
+            ..TO_BOB
+        },
+        "a stranger to bob, who has no place",
+    ),
+    (
+        Row {
+            strangers: true,
+            has_place: true,
+            decided: Decided::Opens(Rule::Stranger),
+            ..TO_BOB
+        },
+        "a stranger to bob, where strangers are served",
+    ),
+    (END, "the end of a dialog without a token"),
+    (
+        Row {
+            token: Some(Token(b"c4", 86_399)),
+            decided: Decided::Opens(Rule::InDialog),
+            ..END
+        },
+        "the end of a dialog with its token",
+    ),
+    (
+        Row {
+            token: Some(Token(b"c4", 86_400)),
+            ..END
+        },
+        "a token that is a day old",
+    ),
+    (
+        Row {
+            token: Some(Token(b"c3", 10)),
+            ..END
+        },
+        "the token of another dialog",
+    ),
+    (
+        Row {
+            token: Some(Token(b"c3", 10)),
+            ..TO_BOB
+        },
+        "a token outside of a dialog",
+    ),
+    (
+        Row {
+            trusted: true,
+            decided: Decided::Opens(Rule::Trusted),
+            ..CALL
+        },
+        "a trusted source",
+    ),
+    (
+        Row {
+            trusted: true,
+            refusal: Some(OwnStatus::TooManyHops),
+            decided: Decided::Turned(483, NOTHING, None),
+            ..CALL
+        },
+        "the checks come first",
+    ),
+    (
+        Row {
+            method: b"REGISTER",
+            uri: b"sip:EXAMPLE.com",
+            lines: REGISTER,
+            refusal: Some(OwnStatus::TooManyHops),
+            decided: Decided::Registers,
+            ..CALL
+        },
+        "a REGISTER for the domain",
+    ),
+    (
+        Row {
+            method: b"REGISTER",
+            lines: REGISTER,
+            ..CALL
+        },
+        "a REGISTER for elsewhere",
+    ),
+];
+
+#[test]
+fn each_row_is_decided(rt: HostRuntime) {
+    strangers_open_nothing_else();
+    requests_are_decided_in_one_way();
+    for (row, what) in ROWS {
+        holds(&rt, decides(rt.alloc(), true, row), what);
+    }
+}
+
+/// Whether a call of bob's is refused where nobody has a password, also with credentials.
+#[test]
+fn nobody_has_a_password_without_a_realm(rt: HostRuntime) {
+    let plain = Row {
+        decided: FORBIDDEN,
+        ..CALL
+    };
+    let given = Row {
+        password: Some(PASSWORD),
+        ..plain
+    };
+    holds(&rt, decides(rt.alloc(), false, &plain), "no credentials");
+    holds(&rt, decides(rt.alloc(), false, &given), "credentials");
+}

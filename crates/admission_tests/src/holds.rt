@@ -1,0 +1,12 @@
+//! The one way in which a test checks.
+use std::process::Abort;
+
+/// Ends the test where this does not hold. `what` says which check it is.
+pub fn holds(rt: &impl Abort, well: bool, what: &str) {
+    assert!(rt; well, "{what}");
+}
+
+/// Ends the test where this does not hold of this text. `what` says which check it is.
+pub fn holds_of(rt: &impl Abort, well: bool, what: &str, text: &[u8]) {
+    assert!(rt; well, "{what}: {text:?}");
+}

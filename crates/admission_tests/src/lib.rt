@@ -1,0 +1,21 @@
+//! Tests of who may open a call: `authentication` and `admission`, by tables of requests.
+#![tactic(auto)]
+
+#[cfg(test)]
+mod answers;
+#[cfg(test)]
+mod calling;
+#[cfg(test)]
+mod calls;
+#[cfg(test)]
+mod holds;
+#[cfg(test)]
+mod notes;
+#[cfg(test)]
+mod passwords;
+#[cfg(test)]
+mod requests;
+#[cfg(test)]
+mod taken_off;
+#[cfg(test)]
+mod world;

@@ -1,0 +1,4 @@
+pub mod ContactLists
+pub mod Values
+pub mod Outcomes
+pub mod Passwords

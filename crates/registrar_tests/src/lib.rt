@@ -1,0 +1,25 @@
+//! Tests of what a proxy does with telephones that register and call: `authentication`, `registrar` and `admission`, by tables of requests.
+#![tactic(auto)]
+
+#[cfg(test)]
+mod answers;
+#[cfg(test)]
+mod calling;
+#[cfg(test)]
+mod calls;
+#[cfg(test)]
+mod holds;
+#[cfg(test)]
+mod notes;
+#[cfg(test)]
+mod passwords;
+#[cfg(test)]
+mod registering;
+#[cfg(test)]
+mod registers;
+#[cfg(test)]
+mod requests;
+#[cfg(test)]
+mod taken_off;
+#[cfg(test)]
+mod world;
