@@ -2,3 +2,4 @@ pub mod ContactLists
 pub mod Values
 pub mod Outcomes
 pub mod Passwords
+pub mod Dates

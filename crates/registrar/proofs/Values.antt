@@ -14,7 +14,7 @@ use Rattle.sip_via.proofs.laws.OwnVia.{IsEnd, decimal-value, end-behind}
 use Rattle.sip_via.specs.Edits.{line}
 use Rattle.registrar.specs.Shown.{is_item}
 
-not_false : (b : Bool) → not b ≡ true → b ≡ false
+pub not_false : (b : Bool) → not b ≡ true → b ≡ false
 not_false true h = absurd cc
 not_false false h = refl
 
@@ -28,7 +28,7 @@ decimal_end n small =
     let ends = and_parts (not (begins_with_space (decimal n))) (not (begins_with_space (reverse (decimal n)))) value.1 in
     record { some = decimal_nonempty n small; ends = not_false (begins_with_space (reverse (decimal n))) ends.1 }
 
-begins : (item back : List ℕ) → begins_with_space item ≡ false → begins_with_space back ≡ false → begins_with_space (item ++ back) ≡ false
+pub begins : (item back : List ℕ) → begins_with_space item ≡ false → begins_with_space back ≡ false → begins_with_space (item ++ back) ≡ false
 begins [] back h k = k
 begins (b ∷ item) back h k = h
 

@@ -1,6 +1,8 @@
 -- The answer to a REGISTER request that was taken (RFC 3261 sections 10.3 step 8 and 20.17).
-use Rattle.std.specs.Prelude.{ℕ, ◌+◌, ◌-◌, ◌/◌, ◌%◌, min, Bool, ◌&&◌, not, List, ◌++◌, fold, codes, if◌then◌else◌}
+use Rattle.std.specs.Prelude.{◌≡◌, ℕ, ◌+◌, ◌-◌, ◌/◌, ◌%◌, min, Bool, ◌&&◌, not, List, ◌++◌, fold, codes, if◌then◌else◌}
 use Rattle.std.specs.Fmt.{decimal}
+use Rattle.httpdate.specs.declared.date.HttpDate.{HttpDate}
+use Rattle.httpdate.specs.Date.{date_text, unix_secs}
 use Rattle.sip_lex.specs.Values.{begins_with_space, is_line}
 use Rattle.sip_text.specs.Text.{HeaderText}
 use Rattle.sip_via.specs.Edits.{line}
@@ -32,3 +34,7 @@ with_contact moment answer binding = if is_shown binding then with_line answer (
 -- a line for each binding that is there, in their order, and behind them the date
 abbrev pub okay : (moment : ℕ) → (date : List ℕ) → List Binding → Answer
 okay moment date bindings = with_line (fold (with_contact moment) (plain Okay) (there moment bindings)) (line (codes "Date") date)
+
+-- with the date of a second since 1970
+abbrev pub IsOkay : (moment second : ℕ) → List Binding → Answer → Type 0
+IsOkay moment second bindings answer = (date : HttpDate) × (unix_secs date ≡ second) × (answer ≡ okay moment (date_text date) bindings)

@@ -110,8 +110,12 @@ fn too_brief_answer<A: Allocator + Clone>(alloc: A, least: u32) -> Result<Answer
     Ok(answer)
 }
 
-/// The 503 that says that the request may come again in a minute.
-fn full_answer<A: Allocator + Clone>(alloc: A) -> Result<Answer<A>, AllocError>
+/// The 503 where there would be too many bindings in all: the request may come again in a minute (RFC 3261 section 20.33).
+///
+/// # Errors
+///
+/// Only where the allocator refuses.
+pub fn full_answer<A: Allocator + Clone>(alloc: A) -> Result<Answer<A>, AllocError>
     ensures { IfOk result (λ answer. answer ≡ full_answer) }
 {
     let value = Vec::from_slice(alloc.clone()?, b"60")?;

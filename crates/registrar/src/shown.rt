@@ -2,10 +2,12 @@
 ghost use Rattle.std.specs.Fmt.{decimal};
 ghost use Rattle.std.specs.Prelude.{◌≡◌, ◌++◌, IfOk, OnOk, codes, true};
 ghost use Rattle.sip_lex.specs.Values.{begins_with_space, is_line, is_value};
-ghost use Rattle.registrar.specs.Shown.{is_item, okay, seconds_left, with_contact};
+ghost use Rattle.httpdate.specs.Date.{unix_secs};
+ghost use Rattle.registrar.specs.Shown.{IsOkay, is_item, okay, seconds_left, with_contact};
 
 use authentication::Answer;
 use bindings::{Binding, UserBindings};
+use httpdate::HttpDate;
 use sip_build::OwnStatus;
 use sip_lex::{append_decimal, is_space};
 use std::alloc::{AllocError, Allocator};
@@ -74,14 +76,8 @@ fn add_contact<A: Allocator, B: Allocator + Clone>(
     answer.push(b"Contact", value)
 }
 
-/// The 200 to a REGISTER request that was taken, by the bindings that are kept then (RFC 3261 section 10.3 step 8): for each that is there
-/// at that moment, in their order, a line with the contact and the seconds that are left; then the date, which is given as text (section
-/// 20.17).
-///
-/// # Errors
-///
-/// Only where the allocator refuses.
-pub fn okay<A: Allocator, B: Allocator + Clone>(
+/// The 200 of these bindings, with this date.
+fn okay_with_date<A: Allocator, B: Allocator + Clone>(
     alloc: B,
     moment: u64,
     date: &[u8],
@@ -97,5 +93,37 @@ pub fn okay<A: Allocator, B: Allocator + Clone>(
     }
     let date = Vec::from_slice(alloc, date)?;
     answer.push(b"Date", date)?;
+    Ok(answer)
+}
+
+/// The date of a second since 1970.
+fn date_of(second: u32) -> HttpDate
+    ensures { unix_secs result ≡ second }
+{
+    match HttpDate::from_unix_secs(u64::from(second)) {
+        Ok(date) => date,
+        Err(_) => unreachable!(),
+    }
+}
+
+/// The 200 to a REGISTER request that was taken, by the bindings that are kept then (RFC 3261 section 10.3 step 8): for each that is there
+/// at that moment, in their order, a line with the contact and the seconds that are left; then the date of that second since 1970 (section
+/// 20.17).
+///
+/// # Errors
+///
+/// Only where the allocator refuses.
+#[tactic(auto, using(crate::proofs::Dates::date_value))]
+pub fn okay<A: Allocator, B: Allocator + Clone>(
+    alloc: B,
+    moment: u64,
+    second: u32,
+    bindings: &UserBindings<A>,
+) -> Result<Answer<B>, AllocError>
+    ensures { IfOk result (IsOkay moment second bindings.now) }
+{
+    let date = date_of(second);
+    let text = date.to_bytes();
+    let answer = okay_with_date(alloc, moment, &text, bindings)?;
     Ok(answer)
 }

@@ -1,16 +1,10 @@
-//! Tests of what a proxy does with telephones that register and call: `authentication`, `registrar` and `admission`, by tables of requests.
+//! Tests of what a registrar does with telephones that register: `registrar`, by tables of REGISTER requests.
 #![tactic(auto)]
 
 #[cfg(test)]
 mod answers;
 #[cfg(test)]
-mod calling;
-#[cfg(test)]
-mod calls;
-#[cfg(test)]
 mod holds;
-#[cfg(test)]
-mod notes;
 #[cfg(test)]
 mod passwords;
 #[cfg(test)]
@@ -19,7 +13,5 @@ mod registering;
 mod registers;
 #[cfg(test)]
 mod requests;
-#[cfg(test)]
-mod taken_off;
 #[cfg(test)]
 mod world;

@@ -20,7 +20,7 @@ pub struct Password {
     pub quality: &'static [u8],
 }
 
-pub const QUALITY: &[u8] = b", qop=auth, nc=00000001, cnonce=\"c\"";
+const QUALITY: &[u8] = b", qop=auth, nc=00000001, cnonce=\"c\"";
 
 /// bob's, by SHA-256, for a REGISTER of the domain.
 pub const BOBS: Password = Password {
@@ -68,7 +68,7 @@ fn response(
 }
 
 /// The line of that name with its credentials.
-pub fn line(
+fn line(
     alloc: Global,
     field: &[u8],
     password: &Password,

@@ -31,7 +31,7 @@ pub struct Row {
     pub ports: &'static [u16],
 }
 
-/// The date of each answer.
+/// The date of each answer, which is made at `SECOND`.
 pub const DATE: &[u8] = b"Sat, 29 Nov 2025 07:06:40 GMT";
 
 /// As many bindings there may be in all.
@@ -86,7 +86,7 @@ fn has_ports(bindings: &UserBindings, row: &Row) -> bool {
 
 /// The 200, where that is what is wanted.
 fn is_taken(alloc: Global, bindings: &UserBindings, row: &Row) -> bool {
-    match okay(alloc, row.at, DATE, bindings) {
+    match okay(alloc, row.at, SECOND, bindings) {
         Ok(answer) => is_wanted(alloc, &answer, row) && row.noted.is_none(),
         Err(_) => false,
     }

@@ -1,7 +1,7 @@
 //! REGISTER requests, from the first of a table to its last.
 use crate::answers::Wanted;
 use crate::holds::holds;
-use crate::passwords::{BOBS, Password, QUALITY};
+use crate::passwords::{BOBS, Password};
 use crate::registering::{DATE, Row, plays};
 use registrar::bindings_need_their_users_password;
 use sip_digest::Algorithm;
@@ -331,7 +331,6 @@ const PASSWORDS: &[Row] = &[
         password: Some(Password {
             algorithm: Algorithm::Md5,
             age: 299,
-            quality: QUALITY,
             ..BOBS
         }),
         wanted: BINDING,

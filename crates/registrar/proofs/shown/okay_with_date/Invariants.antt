@@ -3,7 +3,7 @@ use Rattle.std.specs.Prelude.{fold}
 use Rattle.sip_build.specs.declared.responses.OwnStatus.TheVariants.{Okay}
 use Rattle.authentication.specs.Answer.{plain}
 use Rattle.registrar.specs.Shown.{with_contact}
-use Rattle.registrar.proofs.shown.okay.Given as goal
+use Rattle.registrar.proofs.shown.okay_with_date.Given as goal
 
 abbrev pub invariant-loop-binding : goal.invariant-loop-binding
 invariant-loop-binding g l =
