@@ -239,11 +239,12 @@ const ROWS: &[(Row, &str)] = &[
             method: b"REGISTER",
             uri: b"sip:EXAMPLE.com",
             lines: REGISTER,
+            trusted: true,
             refusal: Some(OwnStatus::TooManyHops),
             decided: Decided::Registers,
             ..CALL
         },
-        "a REGISTER for the domain",
+        "a REGISTER for the domain, from a trusted source",
     ),
     (
         Row {

@@ -20,7 +20,7 @@ mod weight;
 
 pub use asking::{Asking, Registrar, Registration, asking_of};
 pub use expirations::Expirations;
-pub use law::bindings_need_their_users_password;
+pub use law::{bindings_need_their_users_password, changes_are_of_the_request};
 pub use outcome::{Outcome, full_answer};
 pub use shown::okay;
 pub use source::Source;

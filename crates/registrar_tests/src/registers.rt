@@ -3,7 +3,7 @@ use crate::answers::Wanted;
 use crate::holds::holds;
 use crate::passwords::{BOBS, Password};
 use crate::registering::{DATE, Row, plays};
-use registrar::bindings_need_their_users_password;
+use registrar::{bindings_need_their_users_password, changes_are_of_the_request};
 use sip_digest::Algorithm;
 
 const ADDRESS: ([u8; 4], u16) = ([198, 51, 100, 7], 41000);
@@ -362,6 +362,7 @@ const CLOSED: &[Row] = &[
 
 #[test]
 fn one_telephone(rt: HostRuntime) {
+    changes_are_of_the_request();
     holds(&rt, plays(rt.alloc(), true, ONE), "its repeats and its `*`");
 }
 
