@@ -1,5 +1,5 @@
 -- Whether a request belongs to a dialog that went by the proxy, part by part.
-use Rattle.std.proofs.Common.{◌≡◌, ℕ, Bool, true, false, List, Option, Some, None, sym, subst, ◌∙◌}
+use Rattle.std.proofs.Common.{◌≡◌, ℕ, Bool, true, false, List, Option, Some, None, sym, subst}
 use Rattle.std.specs.Prelude.{IsTrue, ◌↔◌, is_some}
 use Rattle.sip_text.specs.declared.needed.Needed.TheVariants.{To}
 use Rattle.sip_text.specs.Fields.{value_of}

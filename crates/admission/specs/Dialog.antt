@@ -1,6 +1,6 @@
 -- Requests of a dialog that went by the proxy (RFC 3261 sections 12.2 and 16.4): the URI by which the proxy stayed on the path comes back in
 -- the first Route value, and its parameter `d` is a token that only the proxy can make for this Call-ID.
-use Rattle.std.specs.Prelude.{◌≡◌, ℕ, Bool, true, List, Option, Some, None, find, is_some, option_and_then, codes}
+use Rattle.std.specs.Prelude.{◌≡◌, ℕ, true, List, Option, Some, find, is_some, option_and_then, codes}
 use Rattle.std.specs.Option.{option_map}
 use Rattle.sip_lex.specs.declared.sheltered.Shelter.TheVariants.{QuotesAndAngles}
 use Rattle.sip_lex.specs.declared.sheltered.Place.TheVariants.{Plain}

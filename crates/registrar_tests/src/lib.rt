@@ -4,6 +4,8 @@
 #[cfg(test)]
 mod answers;
 #[cfg(test)]
+mod growths;
+#[cfg(test)]
 mod holds;
 #[cfg(test)]
 mod passwords;

@@ -68,7 +68,7 @@ fn response(
 }
 
 /// The line of that name with its credentials.
-fn line(
+pub fn line(
     alloc: Global,
     field: &[u8],
     password: &Password,

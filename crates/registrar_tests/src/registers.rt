@@ -18,10 +18,10 @@ const NOTHING: Wanted = Wanted::Lines(&[]);
 
 const DATED: Wanted = Wanted::Lines(&[(b"Date", DATE)]);
 
-const FIRST: &[u8] =
+pub const FIRST: &[u8] =
     b"Via: SIP/2.0/UDP 10.0.0.2:5070;branch=z9hG4bK1\r\nFrom: <sip:bob@example.com>;tag=1\r\nTo: <sip:bob@example.com>\r\nCall-ID: r1\r\nCSeq: 1 REGISTER\r\nContact: <sip:bob@10.0.0.2:5070>;expires=600\r\n";
 
-const SECOND_ONE: &[u8] =
+pub const SECOND_ONE: &[u8] =
     b"Via: SIP/2.0/UDP 10.0.0.2:5070;branch=z9hG4bK2\r\nFrom: <sip:bob@example.com>;tag=1\r\nTo: <sip:bob@example.com>\r\nCall-ID: r1\r\nCSeq: 2 REGISTER\r\nContact: <sip:bob@10.0.0.2:5070>;expires=600\r\n";
 
 const ANOTHER_BRANCH: &[u8] =
