@@ -4,6 +4,7 @@ use crate::passwords::{Password, line_if_any};
 use crate::requests::{joined, request};
 use crate::world::{SECOND, SECRET, domain, realm, users};
 use admission::{Admission, Arrival, Decision, Rule, decision_of};
+use authentication::Realm;
 use sip_build::OwnStatus;
 use sip_digest::append_dialog_token;
 use sip_text::Message;
@@ -98,6 +99,25 @@ fn arrival_of(row: &Row) -> Arrival {
     }
 }
 
+/// Whether it is decided of a request what has to be, in this realm or in none.
+fn decides_in(
+    alloc: Global,
+    realm: Option<&Realm<'_>>,
+    row: &Row,
+    message: &Message<Global>,
+) -> bool {
+    let admission = Admission {
+        domain: domain(),
+        realm,
+        secret: &SECRET,
+        serves_strangers: row.strangers,
+    };
+    match decision_of(alloc, &admission, arrival_of(row), message) {
+        Ok(decision) => is_decided(alloc, &decision, row.decided),
+        Err(_) => false,
+    }
+}
+
 /// Whether it is decided of a request what has to be.
 pub fn decides(alloc: Global, has_realm: bool, row: &Row) -> bool {
     let Some(users) = users(alloc) else {
@@ -109,14 +129,9 @@ pub fn decides(alloc: Global, has_realm: bool, row: &Row) -> bool {
     let Some(message) = message_of(alloc, row) else {
         return false;
     };
-    let admission = Admission {
-        domain: domain(),
-        realm: if has_realm { Some(&realm) } else { None },
-        secret: &SECRET,
-        serves_strangers: row.strangers,
-    };
-    match decision_of(alloc, &admission, arrival_of(row), &message) {
-        Ok(decision) => is_decided(alloc, &decision, row.decided),
-        Err(_) => false,
+    if has_realm {
+        decides_in(alloc, Some(&realm), row, &message)
+    } else {
+        decides_in(alloc, None, row, &message)
     }
 }

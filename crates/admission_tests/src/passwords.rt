@@ -67,6 +67,34 @@ fn response(
     }
 }
 
+/// The line of that name with these credentials.
+fn credentials_line(
+    alloc: Global,
+    field: &[u8],
+    password: &Password,
+    nonce: &[u8],
+    response: &[u8],
+) -> Result<Vec<u8, Global>, AllocError> {
+    joined(
+        alloc,
+        &[
+            field,
+            b": Digest username=\"",
+            password.name,
+            b"\", realm=\"example.com\", nonce=\"",
+            nonce,
+            b"\", uri=\"",
+            password.uri,
+            b"\", response=\"",
+            response,
+            b"\"",
+            algorithm_text(password.algorithm),
+            password.quality,
+            b"\r\n",
+        ],
+    )
+}
+
 /// The line of that name with its credentials.
 fn line(
     alloc: Global,
@@ -82,24 +110,7 @@ fn line(
         SECOND - password.age % 1000,
     )?;
     let response = response(alloc, password, method, &nonce)?;
-    joined(
-        alloc,
-        &[
-            field,
-            b": Digest username=\"",
-            password.name,
-            b"\", realm=\"example.com\", nonce=\"",
-            &nonce,
-            b"\", uri=\"",
-            password.uri,
-            b"\", response=\"",
-            &response,
-            b"\"",
-            algorithm_text(password.algorithm),
-            password.quality,
-            b"\r\n",
-        ],
-    )
+    credentials_line(alloc, field, password, &nonce, &response)
 }
 
 /// The same, or nothing where no credentials are sent.

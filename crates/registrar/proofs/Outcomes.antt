@@ -1,11 +1,11 @@
 -- What becomes of a request, by what the bindings say of it.
-use Rattle.std.proofs.Common.{◌≡◌, ℕ, ◌+◌, Bool, true, false, cond, List, length, Option, Some, None, Result, Ok, refl, ap, sym, ◌∙◌}
+use Rattle.std.proofs.Common.{◌≡◌, ℕ, ◌+◌, Bool, true, false, cond, List, length, Option, Some, None, Result, Ok, Err, refl, ap, sym, ◌∙◌}
 use Rattle.std.specs.Prelude.{nat_lt}
 use Rattle.sip_build.specs.declared.responses.OwnStatus.TheVariants.{BadRequest}
 use Rattle.bindings.specs.declared.refusal.RegisterRefusal.{RegisterRefusal}
 use Rattle.bindings.specs.declared.refusal.RegisterRefusal.TheVariants.{Star, TooMany, Twice, TooBrief, OutOfOrder, NoMemory}
 use Rattle.bindings.specs.Bindings.{Binding, Register, changed, there}
-use Rattle.bindings.specs.Registering.{is_repeat, refusal, registered, unless}
+use Rattle.bindings.specs.Registering.{Prepares, is_repeat, refusal, registered, unless}
 use Rattle.registrar.specs.Asking.{Registration}
 use Rattle.registrar.specs.Outcome.{Changes, Outcome, Refused, Repeated, full_answer, is_malformed, outcome_by, outcome_of, refused_by, refused_with, register_of, unless_full}
 
@@ -17,6 +17,15 @@ changed_is r others most old new none is =
 pub refused_is : (r : Register) (others most : ℕ) (old : List Binding) (why : RegisterRefusal) → refusal r (there r.at old) ≡ Some why
     → refused_by r.least why ≡ outcome_by r others most old (refusal r (there r.at old))
 refused_is r others most old why is = ap (λ (o : Option RegisterRefusal). outcome_by r others most old o) (sym is)
+
+-- why the bindings refuse a request, but for want of memory
+pub told : (r : Register) (old : List Binding) (why : RegisterRefusal) → Prepares r old (Err why) → (why ≡ NoMemory → ⊥) → refusal r (there r.at old) ≡ Some why
+told r old Star h not = h.1
+told r old TooMany h not = h.1
+told r old Twice h not = h.1
+told r old TooBrief h not = h.1
+told r old OutOfOrder h not = h.1
+told r old NoMemory h not = absurd (not refl)
 
 -- ---- what becomes of a request is what the bindings make of it
 
@@ -51,16 +60,16 @@ module _ (r : Register) (others most : ℕ) (old : List Binding) where
   abbrev row : (repeats malformed : Bool) → Option RegisterRefusal → Outcome
   row repeats malformed why = cond repeats Repeated (cond malformed (refused_with BadRequest) (outcome_by r others most old why))
 
-  abbrev told : (repeats : Bool) → Option RegisterRefusal → Result (List Binding) RegisterRefusal
-  told repeats why = cond repeats (Ok old) (unless why made)
+  abbrev given : (repeats : Bool) → Option RegisterRefusal → Result (List Binding) RegisterRefusal
+  given repeats why = cond repeats (Ok old) (unless why made)
 
-  changes : (repeats malformed : Bool) (why : Option RegisterRefusal) (new : List Binding) → row repeats malformed why ≡ Changes new → told repeats why ≡ Ok new
+  changes : (repeats malformed : Bool) (why : Option RegisterRefusal) (new : List Binding) → row repeats malformed why ≡ Changes new → given repeats why ≡ Ok new
   changes true malformed why new h = absurd cc
   changes false true why new h = absurd cc
   changes false false (Some why) new h = absurd (none_refused r.least why new h)
   changes false false None new h = ap Ok (full_or (nat_lt most (others + length made)) made new h)
 
-  repeats_are : (repeats malformed : Bool) (why : Option RegisterRefusal) → row repeats malformed why ≡ Repeated → told repeats why ≡ Ok old
+  repeats_are : (repeats malformed : Bool) (why : Option RegisterRefusal) → row repeats malformed why ≡ Repeated → given repeats why ≡ Ok old
   repeats_are true malformed why h = refl
   repeats_are false true why h = absurd cc
   repeats_are false false (Some why) h = absurd (none_repeated r.least why h)

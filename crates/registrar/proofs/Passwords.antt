@@ -1,7 +1,6 @@
 -- Who may ask for something.
 use Rattle.std.proofs.Common.{◌≡◌, ℕ, Bool, true, false, not, cond, List, Option, Some, None, refl, sym, ap, subst, ◌∙◌}
 use Rattle.std.specs.Prelude.{◌||◌}
-use Rattle.std.specs.Str.{bytes_eq}
 use Rattle.std.proofs.lemmas.Slice.Eq.{bytes_eq-Decides}
 use Rattle.sip_text.specs.Text.{MessageText}
 use Rattle.sip_via.specs.Address.{address_text}
@@ -12,7 +11,7 @@ use Rattle.authentication.specs.Realm.{Realm}
 use Rattle.authentication.specs.Standing.{Arrival, Standing, Stands, Unasked, Anonymous, Unusable, Stale, Wrong, Right, arrival_of}
 use Rattle.registrar.specs.declared.expirations.Expirations.{Expirations}
 use Rattle.registrar.specs.declared.source.Source.{Source}
-use Rattle.registrar.specs.Asking.{Asking, IsAsking, IsAskingFor, IsAskingIf, Registers, Registration, Turned, asked_by, asks_extension, is_users, registration_of, user_of}
+use Rattle.registrar.specs.Asking.{IsAsking, IsAskingFor, IsAskingIf, Registers, Registration, Turned, asks_extension, is_users, registration_of, user_of}
 
 by_cond : (b : Bool) (made r : Registration) (answer : Answer) (noted : Option (List ℕ)) → Registers r ≡ cond b (Registers made) (Turned answer noted) → (b ≡ true) × (r ≡ made)
 by_cond true made r answer noted h = (refl, cc)

@@ -1,8 +1,7 @@
 -- What a registrar writes may stand in header lines.
-use Rattle.std.proofs.Common.{◌≡◌, ℕ, ◌<◌, ◌^◌, Bool, true, false, not, List, [], ◌∷◌, ◌++◌, length, codes, reverse, refl, sym, ap, ◌∙◌, arith}
+use Rattle.std.proofs.Common.{◌≡◌, ℕ, ◌<◌, ◌^◌, Bool, true, false, not, List, [], ◌∷◌, ◌++◌, map, codes, reverse, refl, sym, ap, ◌∙◌, append_assoc}
 use Rattle.std.specs.Fmt.{decimal}
 use Rattle.std.specs.List.{list_all}
-use Rattle.std.specs.Prelude.{◌&&◌}
 use Rattle.std.proofs.lemmas.Bool.{and_parts}
 use Rattle.std.proofs.lemmas.Fmt.{decimal_nonempty}
 use Rattle.sip_lex.specs.Bytes.{is_token}
@@ -12,6 +11,10 @@ use Rattle.sip_text.specs.Message.{is_header}
 use Rattle.sip_via.proofs.laws.Marked.{line-append}
 use Rattle.sip_via.proofs.laws.OwnVia.{IsEnd, decimal-value, end-behind}
 use Rattle.sip_via.specs.Edits.{line}
+use Rattle.sip_text.specs.Text.{HeaderText}
+use Rattle.sip_build.specs.declared.responses.OwnStatus.TheVariants.{BadExtension}
+use Rattle.authentication.specs.Answer.{Answer, with_line}
+use Rattle.registrar.specs.Asking.{unsupported}
 use Rattle.registrar.specs.Shown.{is_item}
 
 pub not_false : (b : Bool) → not b ≡ true → b ≡ false
@@ -28,7 +31,7 @@ decimal_end n small =
     let ends = and_parts (not (begins_with_space (decimal n))) (not (begins_with_space (reverse (decimal n)))) value.1 in
     record { some = decimal_nonempty n small; ends = not_false (begins_with_space (reverse (decimal n))) ends.1 }
 
-pub begins : (item back : List ℕ) → begins_with_space item ≡ false → begins_with_space back ≡ false → begins_with_space (item ++ back) ≡ false
+begins : (item back : List ℕ) → begins_with_space item ≡ false → begins_with_space back ≡ false → begins_with_space (item ++ back) ≡ false
 begins [] back h k = k
 begins (b ∷ item) back h k = h
 
@@ -55,3 +58,17 @@ pub unsupported_header : (values : List (List ℕ)) (value : List ℕ) (rest : L
 unsupported_header values value rest copy e all is =
     let both = and_parts (is_value value) (list_all is_value rest) (sym (ap (list_all is_value) e) ∙ all) in
     ap (λ (v : List ℕ). is_value v) is ∙ both.0
+
+-- the line of the first of several values
+pub one_unsupported : (old new : Answer) (values rest : List (List ℕ)) (value copy : List ℕ) (whole : List HeaderText) → values ≡ value ∷ rest → copy ≡ value
+    → new ≡ with_line old (line (codes "Unsupported") copy)
+    → (old.status ≡ BadExtension) × (old.lines ++ map unsupported values ≡ whole) × (list_all is_value values ≡ true)
+    → (new.status ≡ BadExtension) × (new.lines ++ map unsupported rest ≡ whole) × (list_all is_value rest ≡ true)
+one_unsupported old new values rest value copy whole e is made h =
+    let lines =
+    ap (λ (answer : Answer). answer.lines ++ map unsupported rest) made
+    ∙ append_assoc old.lines (unsupported copy ∷ []) (map unsupported rest)
+    ∙ ap (λ (text : List ℕ). old.lines ++ (unsupported text ∷ map unsupported rest)) is
+    ∙ ap (λ (texts : List (List ℕ)). old.lines ++ map unsupported texts) (sym e) ∙ h.1 in
+    let all = and_parts (is_value value) (list_all is_value rest) (sym (ap (list_all is_value) e) ∙ h.2) in
+    (ap (λ (answer : Answer). answer.status) made ∙ h.0, lines, all.1)

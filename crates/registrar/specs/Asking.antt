@@ -4,7 +4,6 @@ use Rattle.std.specs.Str.{bytes_eq}
 use Rattle.sip_text.specs.Fields.{CSeqText, message_cseq}
 use Rattle.sip_text.specs.Name.{first_value, values_of}
 use Rattle.sip_text.specs.Text.{HeaderText, MessageText}
-use Rattle.sip_uri.specs.declared.hop.Hop.{Hop}
 use Rattle.sip_uri.specs.Uri.{Uri}
 use Rattle.sip_via.specs.Address.{address_text}
 use Rattle.sip_via.specs.Edits.{line}

@@ -3,6 +3,7 @@ pub mod Contact
 pub mod SeenTerms
 pub mod Contacts
 pub mod SeenContacts
+pub mod Pushed
 pub mod Asking
 pub mod SeenAsking
 pub mod Outcome

@@ -1,5 +1,5 @@
 -- What a request asks for, in memory.
-use Rattle.std.specs.Prelude.{ℕ, List, Vec}
+use Rattle.std.specs.Prelude.{ℕ, Vec}
 use Rattle.std.specs.Option.{option_map}
 use Rattle.registrar.specs.declared.asking.Asking.{Asking}
 use Rattle.registrar.specs.declared.asking.Asking.TheVariants as asking

@@ -1,5 +1,5 @@
 //! What a REGISTER request asks for.
-ghost use Rattle.std.specs.Prelude.{◌≡◌, IfOk, not};
+ghost use Rattle.std.specs.Prelude.{◌≡◌, IfOk, None, not};
 ghost use Rattle.std.specs.Option.{option_copied, option_map};
 ghost use Rattle.sip_via.specs.Address.{address_text};
 ghost use Rattle.sip_via.specs.ViaParts.{or_empty};
@@ -9,7 +9,7 @@ ghost use Rattle.authentication.specs.Noted.{noted};
 ghost use Rattle.authentication.specs.SeenRealm.{realm_if_any};
 ghost use Rattle.authentication.specs.SeenStanding.{seen_standing};
 ghost use Rattle.authentication.specs.Standing as known;
-ghost use Rattle.registrar.specs.Asking.{IsAsking, IsAskingFor, IsAskingIf, asked_by, asks_extension, extension_answer, is_users, registration_of, terms_of, user_of, user_of_domain};
+ghost use Rattle.registrar.specs.Asking.{IsAsking, IsAskingFor, IsAskingIf, asked_by, asks_extension, extension_answer, is_users, registration_of, terms_of, user_of, user_of_domain, Turned};
 ghost use Rattle.registrar.specs.SeenAsking.{seen_asking, seen_registration};
 ghost use Rattle.registrar.specs.SeenTerms.{seen_terms};
 
@@ -271,6 +271,31 @@ fn asking_for<'a, M: Allocator, A: Allocator + Clone, U: Allocator + Clone>(
     }
 }
 
+/// What becomes of a request that asks for an extension.
+fn asking_extension<'a, M: Allocator, A: Allocator + Clone>(
+    alloc: &A,
+    message: &'a Message<M>,
+) -> Result<Asking<'a, A>, AllocError>
+    ensures { IfOk result (λ asked. seen_asking asked ≡ Turned (extension_answer message.now) None) }
+{
+    let answer = extension_answer(alloc, message)?;
+    Ok(Asking::Turned(answer, None))
+}
+
+/// What becomes of a request that asks for no extension.
+fn asking_plainly<'a, M: Allocator, A: Allocator + Clone, U: Allocator + Clone>(
+    alloc: &A,
+    registrar: &Registrar<'_, U>,
+    source: Source,
+    message: &'a Message<M>,
+) -> Result<Asking<'a, A>, AllocError>
+    ensures { IfOk result (λ asked. IsAskingFor registrar.now.domain (realm_if_any registrar.now.realm) registrar.now.expirations source message.now (user_of registrar.now.domain message.now) (seen_asking asked)) }
+{
+    let user = user_of(alloc, &registrar.domain, message)?;
+    let asked = asking_for(alloc, registrar, source, message, user)?;
+    Ok(asked)
+}
+
 /// What becomes of a request, which asks for an extension or not.
 fn asking_if<'a, M: Allocator, A: Allocator + Clone, U: Allocator + Clone>(
     alloc: &A,
@@ -282,12 +307,10 @@ fn asking_if<'a, M: Allocator, A: Allocator + Clone, U: Allocator + Clone>(
     ensures { IfOk result (λ asked. IsAskingIf extension registrar.now.domain (realm_if_any registrar.now.realm) registrar.now.expirations source message.now (seen_asking asked)) }
 {
     if extension {
-        let answer = extension_answer(alloc, message)?;
-        return Ok(Asking::Turned(answer, None));
+        asking_extension(alloc, message)
+    } else {
+        asking_plainly(alloc, registrar, source, message)
     }
-    let user = user_of(alloc, &registrar.domain, message)?;
-    let asked = asking_for(alloc, registrar, source, message, user)?;
-    Ok(asked)
 }
 
 /// What a REGISTER request of the domain asks for, or how it is answered before that is looked at (RFC 3261 section 10.3 steps 1 to 5), in

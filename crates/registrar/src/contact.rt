@@ -121,11 +121,12 @@ fn hop_from<A: Allocator + Clone>(
 ) -> Hop
     ensures { result ≡ hop_from source address.now uri.now transport }
 {
-    if !is_address(uri.host(), source.addr) {
+    let addr = source.addr;
+    if !is_address(uri.host(), addr) {
         return source;
     }
     Hop {
-        addr: source.addr,
+        addr,
         port: port_of_uri(address),
         transport,
     }

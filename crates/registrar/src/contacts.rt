@@ -4,7 +4,9 @@ ghost use Rattle.std.specs.List.{list_all};
 ghost use Rattle.std.specs.Option.{option_map};
 ghost use Rattle.sip_uri.specs.Contact.{items_behind};
 ghost use Rattle.sip_text.specs.Name.{values_of};
+ghost use Rattle.registrar.specs.Contact.{asked_of};
 ghost use Rattle.registrar.specs.Contacts.{all_asked, are_star, contacts_of, contacts_of_items, is_readable, items_of};
+ghost use Rattle.registrar.specs.Pushed.{IsPushed};
 ghost use Rattle.registrar.specs.SeenContacts.{seen_contacts, view_items};
 ghost use Rattle.registrar.specs.SeenTerms.{seen_terms};
 
@@ -76,8 +78,26 @@ fn are_star(items: &[&[u8]]) -> bool
     }
 }
 
+/// Appends what a contact asks for, and says whether it asks for anything that can be done.
+fn push_asked<'a, A: Allocator + Clone>(
+    alloc: &A,
+    terms: &ContactTerms<'_>,
+    item: &'a [u8],
+    all: &mut Vec<AskedContact<'a, A>, A>,
+) -> Result<bool, AllocError>
+    ensures { IfOk result (λ asks. IsPushed asks (asked_of (seen_terms terms.now) item.entry.now) all.old.items all.new.items) }
+{
+    match asked_of(alloc, terms, item)? {
+        None => Ok(false),
+        Some(asked) => {
+            all.push(asked)?;
+            Ok(true)
+        }
+    }
+}
+
 /// What each of some contacts asks for; nothing where one asks for nothing that can be done.
-#[tactic(auto, using(crate::proofs::ContactLists::next_read, crate::proofs::ContactLists::none_read, crate::proofs::ContactLists::all_read))]
+#[tactic(auto, using(crate::proofs::ContactLists::ended))]
 fn all_asked<'a, A: Allocator + Clone>(
     alloc: &A,
     terms: &ContactTerms<'_>,
@@ -86,13 +106,10 @@ fn all_asked<'a, A: Allocator + Clone>(
     ensures { IfOk result (λ asked. option_map (λ v. v.items) asked ≡ all_asked (seen_terms terms.now) (view_items items.now)) }
 {
     let mut all = Vec::new(alloc.clone()?);
-    let mut rest = items;
-    while let Some((item, after)) = rest.split_first() {
-        rest = after;
-        let Some(asked) = asked_of(alloc, terms, item)? else {
+    for item in items {
+        if !push_asked(alloc, terms, item, &mut all)? {
             return Ok(None);
-        };
-        all.push(asked)?;
+        }
     }
     Ok(Some(all))
 }

@@ -1,10 +1,11 @@
 //! What a REGISTER request makes of the bindings of its user.
 ghost use Rattle.std.specs.Fmt.{decimal};
 ghost use Rattle.std.specs.Prelude.{◌≡◌, ◌+◌, IfOk, false, nat_lt};
+ghost use Rattle.bindings.specs.declared.refusal.RegisterRefusal.TheVariants as refusals;
 ghost use Rattle.bindings.specs.Bindings.{there};
 ghost use Rattle.bindings.specs.Registering.{is_repeat, refusal};
 ghost use Rattle.bindings.specs.Seen.{all_asked_of, register_of as seen_request};
-ghost use Rattle.registrar.specs.Outcome.{full_answer, is_malformed, listed_of, outcome_by, outcome_of, outcome_with, refused_with, register_of, star_of, too_brief_answer, unless_full};
+ghost use Rattle.registrar.specs.Outcome.{full_answer, is_malformed, listed_of, outcome_by, outcome_of, outcome_with, refused_by, refused_with, register_of, star_of, too_brief_answer, unless_full};
 ghost use Rattle.registrar.specs.SeenAsking.{seen_registration};
 ghost use Rattle.registrar.specs.SeenContacts.{seen_contacts};
 ghost use Rattle.registrar.specs.SeenOutcome.{seen_outcome};
@@ -154,7 +155,30 @@ fn unless_full<A: Allocator + Clone>(
     }
 }
 
+/// What becomes of a request that the bindings refuse for this reason.
+///
+/// # Errors
+///
+/// Where memory is the reason, or the allocator refuses.
+fn refused_by<A: Allocator + Clone>(
+    alloc: A,
+    least: u32,
+    why: RegisterRefusal,
+) -> Result<Outcome<A>, AllocError>
+    ensures { IfOk result (λ outcome. (why ≡ refusals.NoMemory → ⊥) × (seen_outcome outcome ≡ refused_by least why)) }
+{
+    match why {
+        RegisterRefusal::Star | RegisterRefusal::TooMany | RegisterRefusal::Twice => {
+            Ok(refused(alloc, OwnStatus::BadRequest))
+        }
+        RegisterRefusal::TooBrief => Ok(Outcome::Refused(too_brief_answer(alloc, least)?)),
+        RegisterRefusal::OutOfOrder => Ok(refused(alloc, OwnStatus::ServerInternalError)),
+        RegisterRefusal::NoMemory => Err(AllocError),
+    }
+}
+
 /// What a request makes of the bindings that comes for the first time.
+#[tactic(auto, using(crate::proofs::Outcomes::changed_is, crate::proofs::Outcomes::refused_is, crate::proofs::Outcomes::told))]
 fn outcome_by<A: Allocator + Clone>(
     alloc: A,
     request: &RegisterRequest<'_>,
@@ -167,16 +191,15 @@ fn outcome_by<A: Allocator + Clone>(
         ≡ outcome_by (seen_request request.now) others most bindings.now (refusal (seen_request request.now) (there request.now.at bindings.now))) }
 {
     match bindings.prepared(alloc.clone()?, request) {
-        Ok(Some(changed)) => unless_full(alloc, others, most, changed),
-        Ok(None) => unreachable!(),
-        Err(RegisterRefusal::Star) => Ok(refused(alloc, OwnStatus::BadRequest)),
-        Err(RegisterRefusal::TooMany) => Ok(refused(alloc, OwnStatus::BadRequest)),
-        Err(RegisterRefusal::Twice) => Ok(refused(alloc, OwnStatus::BadRequest)),
-        Err(RegisterRefusal::TooBrief) => {
-            Ok(Outcome::Refused(too_brief_answer(alloc, request.least)?))
+        Ok(Some(changed)) => {
+            let outcome = unless_full(alloc, others, most, changed)?;
+            Ok(outcome)
         }
-        Err(RegisterRefusal::OutOfOrder) => { Ok(refused(alloc, OwnStatus::ServerInternalError)) }
-        Err(RegisterRefusal::NoMemory) => Err(AllocError),
+        Ok(None) => unreachable!(),
+        Err(why) => {
+            let outcome = refused_by(alloc, request.least, why)?;
+            Ok(outcome)
+        }
     }
 }
 

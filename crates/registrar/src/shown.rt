@@ -113,7 +113,6 @@ fn date_of(second: u32) -> HttpDate
 /// # Errors
 ///
 /// Only where the allocator refuses.
-#[tactic(auto, using(crate::proofs::Dates::date_value))]
 pub fn okay<A: Allocator, B: Allocator + Clone>(
     alloc: B,
     moment: u64,

@@ -106,18 +106,16 @@ fn tells_of_growths(
     refused_once(alloc, &Single { call: &call }) == Some(0)
 }
 
-/// The text of the 200 to this request.
-fn taken(alloc: Global, message: &Message<Global>) -> Option<Vec<u8>> {
-    let tag = own_tag(message);
+/// The text of the 200 to bob's second request, with this tag.
+fn taken(alloc: Global, tag: &[u8]) -> Result<Vec<u8>, AllocError> {
     joined(
         alloc,
         &[
             b"SIP/2.0 200 OK\r\nVia: SIP/2.0/UDP 10.0.0.2:5070;branch=z9hG4bK2\r\nFrom: <sip:bob@example.com>;tag=1\r\nTo: <sip:bob@example.com>;tag=",
-            &tag,
+            tag,
             b"\r\nCall-ID: r1\r\nCSeq: 2 REGISTER\r\nContact: <sip:bob@10.0.0.2:5070>;expires=600\r\nDate: Sat, 29 Nov 2025 07:06:40 GMT\r\nContent-Length: 0\r\n\r\n",
         ],
     )
-    .ok()
 }
 
 /// Whether bob's first request is challenged, and his second one taken, whatever growth is refused.
@@ -135,7 +133,8 @@ fn is_answered(alloc: Global, registrar: &Registrar<'_>) -> bool {
     let Ok(challenged) = answer_text(alloc, registrar, &first) else {
         return false;
     };
-    let Some(taken) = taken(alloc, &second) else {
+    let tag = own_tag(&second);
+    let Ok(taken) = taken(alloc, &tag) else {
         return false;
     };
     tells_of_growths(alloc, registrar, &first, &challenged)

@@ -3,7 +3,7 @@ use crate::answers::{Wanted, is_answer};
 use crate::passwords::{Password, line_if_any};
 use crate::requests::request;
 use crate::world::{EXPIRATIONS, SECOND, domain, realm, users};
-use authentication::Answer;
+use authentication::{Answer, Realm};
 use bindings::UserBindings;
 use registrar::{Asking, Outcome, Registrar, Registration, Source, asking_of, okay};
 use sip_text::Message;
@@ -143,6 +143,15 @@ fn all_followed(alloc: Global, registrar: &Registrar<'_>, rows: &[Row]) -> bool 
     true
 }
 
+fn plays_in(alloc: Global, realm: Option<&Realm<'_>>, rows: &[Row]) -> bool {
+    let registrar = Registrar {
+        domain: domain(),
+        realm,
+        expirations: EXPIRATIONS,
+    };
+    all_followed(alloc, &registrar, rows)
+}
+
 /// Whether each row of a table is answered as it has to be, and leaves what it has to leave.
 pub fn plays(alloc: Global, has_realm: bool, rows: &[Row]) -> bool {
     let Some(users) = users(alloc) else {
@@ -151,10 +160,9 @@ pub fn plays(alloc: Global, has_realm: bool, rows: &[Row]) -> bool {
     let Some(realm) = realm(&users) else {
         return false;
     };
-    let registrar = Registrar {
-        domain: domain(),
-        realm: if has_realm { Some(&realm) } else { None },
-        expirations: EXPIRATIONS,
-    };
-    all_followed(alloc, &registrar, rows)
+    if has_realm {
+        plays_in(alloc, Some(&realm), rows)
+    } else {
+        plays_in(alloc, None, rows)
+    }
 }

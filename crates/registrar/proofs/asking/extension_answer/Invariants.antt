@@ -1,4 +1,4 @@
-use Rattle.std.proofs.Common.{◌≡◌, ◌++◌, true, map, codes}
+use Rattle.std.proofs.Common.{◌≡◌, ◌++◌, true, map}
 use Rattle.std.specs.List.{list_all}
 use Rattle.sip_lex.specs.Values.{is_value}
 use Rattle.sip_build.specs.declared.responses.OwnStatus.TheVariants.{BadExtension}

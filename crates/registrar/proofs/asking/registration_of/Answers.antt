@@ -1,4 +1,4 @@
-use Rattle.std.proofs.Common.{List, codes, sym, ap, ◌∙◌}
+use Rattle.std.proofs.Common.{codes, sym, ap, ◌∙◌}
 use Rattle.sip_text.specs.Name.{values_of}
 use Rattle.sip_via.specs.ViaParts.{or_empty}
 use Rattle.registrar.specs.Asking.{number_of}

@@ -2,7 +2,7 @@ use Rattle.std.proofs.Common.{List, ℕ, Option, subst}
 use Rattle.authentication.specs.SeenRealm.{realm_if_any}
 use Rattle.registrar.specs.Asking.{IsAskingFor}
 use Rattle.registrar.specs.SeenAsking.{seen_asking}
-use Rattle.registrar.proofs.asking.asking_if.Goals as goal
+use Rattle.registrar.proofs.asking.asking_plainly.Goals as goal
 
 pub returns : goal.returns
 returns g c =
