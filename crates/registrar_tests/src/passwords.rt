@@ -68,12 +68,12 @@ fn response(
 }
 
 /// The line of that name with these credentials.
-fn credentials_line(
+fn credentials_line<'x>(
     alloc: Global,
-    field: &[u8],
-    password: &Password,
-    nonce: &[u8],
-    response: &[u8],
+    field: &'x [u8],
+    password: &'x Password,
+    nonce: &'x [u8],
+    response: &'x [u8],
 ) -> Result<Vec<u8, Global>, AllocError> {
     joined(
         alloc,
