@@ -1,5 +1,4 @@
 //! What a telephone that has a password adds to its request.
-use crate::requests::joined;
 use crate::world::{SECOND, SECRET};
 use sip_digest::{Algorithm, Protection, Secrets, append_nonce, md5_response, sha256_response};
 use std::alloc::{AllocError, Global};
@@ -67,32 +66,27 @@ fn response(
     }
 }
 
-/// The line of that name with these credentials.
-fn credentials_line<'x>(
-    alloc: Global,
-    field: &'x [u8],
-    password: &'x Password,
-    nonce: &'x [u8],
-    response: &'x [u8],
-) -> Result<Vec<u8, Global>, AllocError> {
-    joined(
-        alloc,
-        &[
-            field,
-            b": Digest username=\"",
-            password.name,
-            b"\", realm=\"example.com\", nonce=\"",
-            nonce,
-            b"\", uri=\"",
-            password.uri,
-            b"\", response=\"",
-            response,
-            b"\"",
-            algorithm_text(password.algorithm),
-            password.quality,
-            b"\r\n",
-        ],
-    )
+/// Appends the line of that name with these credentials.
+fn append_credentials(
+    out: &mut Vec<u8, Global>,
+    field: &[u8],
+    password: &Password,
+    nonce: &[u8],
+    response: &[u8],
+) -> Result<(), AllocError> {
+    out.extend_from_slice(field)?;
+    out.extend_from_slice(b": Digest username=\"")?;
+    out.extend_from_slice(password.name)?;
+    out.extend_from_slice(b"\", realm=\"example.com\", nonce=\"")?;
+    out.extend_from_slice(nonce)?;
+    out.extend_from_slice(b"\", uri=\"")?;
+    out.extend_from_slice(password.uri)?;
+    out.extend_from_slice(b"\", response=\"")?;
+    out.extend_from_slice(response)?;
+    out.extend_from_slice(b"\"")?;
+    out.extend_from_slice(algorithm_text(password.algorithm))?;
+    out.extend_from_slice(password.quality)?;
+    out.extend_from_slice(b"\r\n")
 }
 
 /// The line of that name with its credentials.
@@ -110,7 +104,9 @@ fn line(
         SECOND - password.age % 1000,
     )?;
     let response = response(alloc, password, method, &nonce)?;
-    credentials_line(alloc, field, password, &nonce, &response)
+    let mut text = Vec::new(alloc);
+    append_credentials(&mut text, field, password, &nonce, &response)?;
+    Ok(text)
 }
 
 /// The same, or nothing where no credentials are sent.

@@ -76,6 +76,7 @@ fn answer_text<A: Allocator + Copy>(
 }
 
 /// A request that is answered with this text.
+#[derive(Drop)]
 struct Answered<'r> {
     registrar: &'r Registrar<'r>,
     message: &'r Message<Global>,
