@@ -1,0 +1,5 @@
+pub mod ContactLists
+pub mod Values
+pub mod Outcomes
+pub mod Passwords
+pub mod Dates

@@ -1,0 +1,11 @@
+pub mod Expirations
+pub mod Contact
+pub mod SeenTerms
+pub mod Contacts
+pub mod SeenContacts
+pub mod Pushed
+pub mod Asking
+pub mod SeenAsking
+pub mod Outcome
+pub mod SeenOutcome
+pub mod Shown
