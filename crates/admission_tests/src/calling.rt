@@ -3,7 +3,7 @@ use crate::answers::{Wanted, is_answer};
 use crate::passwords::{Password, line_if_any};
 use crate::requests::{joined, request};
 use crate::world::{SECOND, SECRET, domain, realm, users};
-use admission::{Admission, Arrival, Decision, Rule, decision_of};
+use admission::{Admission, Arrival, Decision, Rule, decision_of, is_for_registrar, is_of_dialog};
 use authentication::Realm;
 use sip_build::OwnStatus;
 use sip_digest::append_dialog_token;
@@ -99,6 +99,30 @@ fn arrival_of(row: &Row) -> Arrival {
     }
 }
 
+fn is_registering(decided: Decided) -> bool {
+    match decided {
+        Decided::Registers => true,
+        Decided::Opens(_) | Decided::Turned(_, _, _) => false,
+    }
+}
+
+fn is_in_dialog(decided: Decided) -> bool {
+    match decided {
+        Decided::Opens(rule) => rule == Rule::InDialog,
+        Decided::Registers | Decided::Turned(_, _, _) => false,
+    }
+}
+
+/// Whether a request is one for the registrar, and one of a dialog, where the decision has it so.
+fn is_of_its_kind(alloc: Global, row: &Row, message: &Message<Global>) -> bool {
+    let domain = domain();
+    let Ok(registers) = is_for_registrar(alloc, &domain, message) else {
+        return false;
+    };
+    registers == is_registering(row.decided)
+        && (!is_in_dialog(row.decided) || is_of_dialog(&SECRET, domain.own, SECOND, message))
+}
+
 /// Whether it is decided of a request what has to be, in this realm or in none.
 fn decides_in(
     alloc: Global,
@@ -113,7 +137,9 @@ fn decides_in(
         serves_strangers: row.strangers,
     };
     match decision_of(alloc, &admission, arrival_of(row), message) {
-        Ok(decision) => is_decided(alloc, &decision, row.decided),
+        Ok(decision) => {
+            is_decided(alloc, &decision, row.decided) && is_of_its_kind(alloc, row, message)
+        }
         Err(_) => false,
     }
 }

@@ -1,10 +1,11 @@
 //! REGISTER requests, from the first of a table to its last.
-use crate::answers::Wanted;
+use crate::answers::{Wanted, is_answer};
 use crate::holds::holds;
 use crate::passwords::{BOBS, Password};
 use crate::registering::{DATE, Row, plays};
-use registrar::{bindings_need_their_users_password, changes_are_of_the_request};
+use registrar::{bindings_need_their_users_password, changes_are_of_the_request, full_answer};
 use sip_digest::Algorithm;
+use std::alloc::Global;
 
 const ADDRESS: ([u8; 4], u16) = ([198, 51, 100, 7], 41000);
 
@@ -378,6 +379,25 @@ fn two_telephones(rt: HostRuntime) {
 #[test]
 fn refusals_have_an_order(rt: HostRuntime) {
     holds(&rt, plays(rt.alloc(), true, ORDER), "each refusal");
+}
+
+/// Whether the answer for want of a place says when the request may come again.
+fn is_told_when(alloc: Global) -> bool {
+    match full_answer(alloc) {
+        Ok(answer) => is_answer(
+            alloc,
+            &answer,
+            503,
+            Wanted::Lines(&[(b"Retry-After", b"60")]),
+            [198, 51, 100, 7],
+        ),
+        Err(_) => false,
+    }
+}
+
+#[test]
+fn too_many_bindings_may_come_again(rt: HostRuntime) {
+    holds(&rt, is_told_when(rt.alloc()), "in a minute");
 }
 
 #[test]
