@@ -1,7 +1,9 @@
 //! For how long telephones ring, what those are told that stop, and what an operator sees of it.
 use crate::holds::holds;
 use crate::played::{Moment, PLAIN, Played, Turn, plays_by};
-use crate::texts::{BOB, CALLER, CANCEL, CAROL, CAROL_AFTERWARDS, INVITE, Request};
+use crate::texts::{
+    BOB, CALLER, CANCEL, CAROL, CAROL_AFTERWARDS, CAROL_ELSEWHERE, INVITE, Request,
+};
 use std::alloc::Global;
 use std::sync::Wait;
 use std::time::Clock;
@@ -109,6 +111,74 @@ const GROUPS: &[Moment] = &[
     (50_000, Turn::ToldOf(0, "unknown call 0\n")),
 ];
 
+/// The same telephones for five seconds each, but for the first one's sixty.
+const FIVE: &[u8] =
+    b"own 192.0.2.9 5060\ninstance 7\ndomain example.com\nring 5\nlocation carol 1000 sip:carol@192.0.2.5 60\nlocation carol 500 sip:carol@192.0.2.6\n";
+
+/// A second call to carol.
+const AGAIN: Request = Request {
+    call: "again",
+    ..TO_CAROL
+};
+
+/// The configuration is read anew while the first telephone rings. That call goes on as it was opened; in the next one the first telephone answers with
+/// another contact, which rings for as long as the new `ring` says, and not as the line of the first one.
+const READ_ANEW: &[Moment] = &[
+    (0, Turn::Asks(TO_CAROL)),
+    (
+        10,
+        Turn::Answers(CAROL, "INVITE", "one", "SIP/2.0 180 Ringing"),
+    ),
+    (1_000, Turn::Reloads(FIVE, Ok(()))),
+    (2_000, Turn::Asks(AGAIN)),
+    (
+        2_010,
+        Turn::Answers(
+            CAROL,
+            "INVITE",
+            "again",
+            "SIP/2.0 302 Moved Temporarily\r\nContact: <sip:carol@192.0.2.7>",
+        ),
+    ),
+    (2_010, Turn::Skips),
+    (
+        2_020,
+        Turn::Answers(CAROL_ELSEWHERE, "INVITE", "again", "SIP/2.0 180 Ringing"),
+    ),
+    (2_020, Turn::Sends(CALLER, "SIP/2.0 180 ", "again")),
+    (7_009, Turn::Ticks),
+    (7_009, Turn::SendsNothing),
+    (7_010, Turn::Ticks),
+    (7_010, Turn::Sends(CAROL_ELSEWHERE, "CANCEL ", "again")),
+    (7_010, Turn::Lacks(REASON)),
+    (7_010, Turn::SendsNothing),
+    (
+        7_020,
+        Turn::Answers(CAROL_ELSEWHERE, "CANCEL", "again", "SIP/2.0 200 OK"),
+    ),
+    (
+        7_020,
+        Turn::Answers(
+            CAROL_ELSEWHERE,
+            "INVITE",
+            "again",
+            "SIP/2.0 487 Request Terminated",
+        ),
+    ),
+    (7_020, Turn::Sends(CAROL_AFTERWARDS, "INVITE ", "again")),
+    (7_020, Turn::Sends(CAROL_ELSEWHERE, "ACK ", "again")),
+    (
+        7_030,
+        Turn::Answers(CAROL_AFTERWARDS, "INVITE", "again", "SIP/2.0 200 OK"),
+    ),
+    (7_030, Turn::Sends(CALLER, "SIP/2.0 200 ", "again")),
+    (14_999, Turn::Ticks),
+    (14_999, Turn::SendsNothing),
+    (15_000, Turn::Ticks),
+    (15_000, Turn::Sends(CAROL, "CANCEL ", "one")),
+    (15_000, Turn::SendsNothing),
+];
+
 /// Two telephones of bob, which are called at once.
 const TWO: &[u8] =
     b"own 192.0.2.9 5060\ninstance 7\ndomain example.com\nlocation bob 1000 sip:bob@192.0.2.4\nlocation bob 1000 sip:bob@192.0.2.5\n";
@@ -208,6 +278,14 @@ fn a_telephone_rings_for_so_long_and_the_next_is_called(rt: HostRuntime) {
         PLAIN,
         GROUPS,
         "a time of its own",
+    );
+    plays_by(
+        &rt,
+        rt.alloc(),
+        FIFTEEN,
+        PLAIN,
+        READ_ANEW,
+        "read anew, and a contact",
     );
 }
 

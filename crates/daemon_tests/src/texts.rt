@@ -30,6 +30,13 @@ pub const CAROL_AFTERWARDS: Hop = Hop {
     transport: Transport::Udp,
 };
 
+/// One that no line names.
+pub const CAROL_ELSEWHERE: Hop = Hop {
+    addr: [192, 0, 2, 7],
+    port: 5060,
+    transport: Transport::Udp,
+};
+
 /// A telephone at the proxy's own address.
 pub const BESIDE: Hop = Hop {
     addr: [192, 0, 2, 9],
