@@ -13,11 +13,18 @@ const SPARE: u64 = 64;
 /// How many places are left behind at most where one value is taken away.
 const MOST_LEFT: u32 = 4;
 
-/// A value behind its lock, and the key that it was put under. Under the lock there is none once it was taken away.
+/// A value, and whether it was taken away: then nobody looks at it any more.
+#[derive(Drop)]
+pub(crate) struct Shelved<T> {
+    pub(crate) value: T,
+    pub(crate) is_gone: bool,
+}
+
+/// A value behind its lock, and the key that it was put under.
 #[derive(Drop)]
 pub(crate) struct Entry<T, A: Allocator> {
     pub(crate) key: Vec<u8, A>,
-    pub(crate) value: Arc<Mutex<Option<T>>, A>,
+    pub(crate) value: Arc<Mutex<Shelved<T>>, A>,
 }
 
 /// The entries by number. The entry of a number below `base` stands in a map; that of a number from there on has a place, which

@@ -5,10 +5,9 @@ ghost use Rattle.call_table.specs.inner.KeyTable.{number_of, IsListed, IsSame, I
 ghost use Rattle.call_table.specs.Faults.{IfKnown, IfMade};
 ghost use Rattle.call_table.specs.Removals.{said};
 
-use crate::entries::{Entries, Entry};
+use crate::entries::{Entries, Entry, Shelved};
 use crate::key_table::{KeyTable, Taken};
 use std::alloc::{AllocError, Allocator, Global};
-use std::mem;
 use std::sync::{Arc, Mutex, Wait};
 use thiserror::Error;
 
@@ -236,9 +235,13 @@ impl<T: Numbered + Drop, A: Allocator + Clone> Shelf<T, A> {
     }
 
     /// A value behind a lock.
-    fn behind_lock(&self, value: T) -> Result<Arc<Mutex<Option<T>>, A>, AllocError> {
+    fn behind_lock(&self, value: T) -> Result<Arc<Mutex<Shelved<T>>, A>, AllocError> {
         let alloc = self.alloc.clone()?;
-        match Arc::new(alloc, Mutex::new(Some(value))) {
+        let shelved = Shelved {
+            value,
+            is_gone: false,
+        };
+        match Arc::new(alloc, Mutex::new(shelved)) {
             Ok(entry) => Ok(entry),
             Err(_) => Err(AllocError),
         }
@@ -277,9 +280,9 @@ impl<T: Numbered + Drop, A: Allocator + Clone> Shelf<T, A> {
         key_table: &mut KeyTable<A>,
         no: u64,
         f: F,
-    ) -> Result<(T, Unlisted<T, A>), Removal>
+    ) -> Result<Unlisted<T, A>, Removal>
         requires callable { (x : _) → T.number_of x.now ≡ no → F.pre f x }
-        ensures taken { IfOk result (λ taken. (old : T) × (T.number_of old ≡ no) × FnOnceReturnsAtMut F.FnOnce f old true taken.0) }
+        ensures taken { OnOk result ((old : T) × (new : T) × (T.number_of old ≡ no) × FnOnceReturnsAtMut F.FnOnce f old true new) }
         ensures left { IfErr result (λ why. IfSome (said why) (λ r. (old : T) × (new : T) × (T.number_of old ≡ no) × FnOnceReturnsAtMut F.FnOnce f old r new)) }
         ensures gone { OnOk result ((key : List ℕ) × (number_of key_table.old key ≡ Some no) × IsUnlisted key key_table.old key_table.new) }
         ensures same { OnErr result (key_table.new ≡ key_table.old) }
@@ -287,9 +290,9 @@ impl<T: Numbered + Drop, A: Allocator + Clone> Shelf<T, A> {
         let Some(entry) = self.entry(rt, no) else {
             return Err(Removal::Absent);
         };
-        let value = take_if(&entry, no, f)?;
+        take_if(&entry, no, f)?;
         match self.unlist(rt, key_table, no) {
-            Some(unlisted) => Ok((value, unlisted)),
+            Some(unlisted) => Ok(unlisted),
             None => Err(Removal::Absent),
         }
     }
@@ -325,7 +328,7 @@ impl<T: Numbered + Drop, A: Allocator + Clone> Shelf<T, A> {
     }
 
     /// The entry of a number, with no lock held.
-    fn entry<R: Wait>(&self, rt: &R, no: u64) -> Option<Arc<Mutex<Option<T>>, A>> {
+    fn entry<R: Wait>(&self, rt: &R, no: u64) -> Option<Arc<Mutex<Shelved<T>>, A>> {
         let entries = self.entries.lock(rt);
         Arc::try_clone(&entries.get(no)?.value).ok()
     }
@@ -343,14 +346,15 @@ impl<T: Numbered + Drop, A: Allocator + Clone> Shelf<T, A> {
     }
 }
 
-/// Takes a value from behind its lock, where it has this number and `f` says so of it, without waiting for the lock.
-fn take_if<T: Numbered + Drop, F: FnOnce(&mut T) -> bool>(
-    lock: &Mutex<Option<T>>,
+/// Takes a value away, where it has this number and `f` says so of it, without waiting for its lock. It stays where it is until its last
+/// owner goes: so it is not copied.
+fn take_if<T: Numbered, F: FnOnce(&mut T) -> bool>(
+    lock: &Mutex<Shelved<T>>,
     no: u64,
     f: F,
-) -> Result<T, Removal>
+) -> Result<(), Removal>
     requires callable { (x : _) → T.number_of x.now ≡ no → F.pre f x }
-    ensures taken { IfOk result (λ new. (old : T) × (T.number_of old ≡ no) × FnOnceReturnsAtMut F.FnOnce f old true new) }
+    ensures taken { OnOk result ((old : T) × (new : T) × (T.number_of old ≡ no) × FnOnceReturnsAtMut F.FnOnce f old true new) }
     ensures left { IfErr result (λ why. IfSome (said why) (λ r. (old : T) × (new : T) × (T.number_of old ≡ no) × FnOnceReturnsAtMut F.FnOnce f old r new)) }
 {
     let Some(mut guard) = lock.try_lock() else {
@@ -361,22 +365,23 @@ fn take_if<T: Numbered + Drop, F: FnOnce(&mut T) -> bool>(
         Some(false) => return Err(Removal::Kept),
         Some(true) => {}
     }
-    match mem::take(&mut *guard) {
-        Some(value) => Ok(value),
-        None => Err(Removal::Absent),
-    }
+    guard.is_gone = true;
+    Ok(())
 }
 
-/// What a call of `f` at a value returns, where the value is there and has this number.
+/// What a call of `f` at a value returns, where the value was not taken away and has this number.
 fn called_at<T: Numbered, U, F: FnOnce(&mut T) -> U>(
-    value: &mut Option<T>,
+    shelved: &mut Shelved<T>,
     no: u64,
     f: F,
 ) -> Option<U>
     requires callable { (x : _) → T.number_of x.now ≡ no → F.pre f x }
-    ensures { IfSome result (λ r. (old : T) × (new : T) × (value.old ≡ Some old) × (value.new ≡ Some new) × (T.number_of old ≡ no) × FnOnceReturnsAtMut F.FnOnce f old r new) }
+    ensures { IfSome result (λ r. (old : T) × (new : T) × (T.number_of old ≡ no) × FnOnceReturnsAtMut F.FnOnce f old r new) }
 {
-    let value = value.as_mut()?;
+    if shelved.is_gone {
+        return None;
+    }
+    let value = &mut shelved.value;
     if value.number() != no {
         return None;
     }
