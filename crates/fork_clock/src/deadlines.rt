@@ -148,6 +148,21 @@ impl<A: Allocator + Clone> DeadlineHeap<A> {
         list(&mut self.heap, &mut self.deadlines, number, deadline)
     }
 
+    /// Gives a number this deadline, in the place of the one that it has.
+    ///
+    /// # Errors
+    ///
+    /// Only where the allocator refuses; then each number has the deadline that it had.
+    pub(crate) fn set(&mut self, number: u64, deadline: u64) -> Result<(), AllocError>
+        ensures ok { OnOk result (IsSet self.old number deadline self.new) }
+        ensures err { OnErr result (AreSame self.old self.new) }
+    {
+        if counts(&self.deadlines, number, deadline) {
+            return Ok(());
+        }
+        list(&mut self.heap, &mut self.deadlines, number, deadline)
+    }
+
     /// Takes a number whose deadline has come, the earliest of all; it has none then. None where no deadline has come.
     pub(crate) fn take_due(&mut self, now: u64) -> Option<u64>
         ensures some { IfSome result (λ number. IsEarliestDue self.old now number × IsWithout self.old number self.new) }

@@ -71,21 +71,47 @@ impl<A: Allocator + Clone> Schedule<A> {
         let (added, is_earliest) = {
             let mut deadlines = self.deadlines.lock(rt);
             let added = deadlines.add(number, deadline);
-            // (it is changed where the lock is held alone)
-            let is_earliest = added.is_ok() && deadline < self.earliest.load(Ordering::SeqCst);
-            if is_earliest {
-                self.earliest.store(deadline, Ordering::SeqCst);
-            }
-            (added, is_earliest)
+            (added, added.is_ok() && self.leads(deadline))
         };
-        let is_missed = added.is_err();
+        self.wake_for(added, is_earliest);
+        added
+    }
+
+    /// Sets the deadline of a call, in milliseconds, in the place of the one that it has, if it has one. Where it is the earliest of all
+    /// now, the thread that sleeps wakes; where the one before was, it may wake once too often. Whoever sets it keeps others from looking
+    /// at the call meanwhile: so the last one set is that of the call as it is.
+    ///
+    /// # Errors
+    ///
+    /// Only where the allocator refuses. Then the deadline counts as missed, and the thread that sleeps wakes.
+    pub fn set<R: Wait>(&self, rt: &R, number: u64, deadline: u64) -> Result<(), AllocError> {
+        let (set, is_earliest) = {
+            let mut deadlines = self.deadlines.lock(rt);
+            let set = deadlines.set(number, deadline);
+            (set, set.is_ok() && self.leads(deadline))
+        };
+        self.wake_for(set, is_earliest);
+        set
+    }
+
+    /// Whether a deadline is the earliest of all, which is noted then. The lock of the deadlines is held alone meanwhile.
+    fn leads(&self, deadline: u64) -> bool {
+        let is_earliest = deadline < self.earliest.load(Ordering::SeqCst);
+        if is_earliest {
+            self.earliest.store(deadline, Ordering::SeqCst);
+        }
+        is_earliest
+    }
+
+    /// Wakes the thread that sleeps where a deadline is the earliest of all now, or was missed, which is noted then.
+    fn wake_for(&self, listed: Result<(), AllocError>, is_earliest: bool) {
+        let is_missed = listed.is_err();
         if is_missed {
             self.missed.store(true, Ordering::SeqCst);
         }
         if is_missed || is_earliest {
             self.parker.unpark();
         }
-        added
     }
 
     /// Whether some call may be due at `now`, in milliseconds. The look takes no lock.

@@ -113,12 +113,27 @@ impl<A: Allocator + Copy> Service<A> {
         self.quota.close(now);
     }
 
-    /// Carries the call of this number at a later moment, in milliseconds.
-    fn carry_at<R: Wait>(&self, rt: &R, number: u64, due: u64, now: u64) {
-        if self.calls.schedule.add(rt, number, due).is_err() {
+    /// Notes that the memory for a deadline was refused, where it was.
+    fn note_missed(&self, listed: Result<(), AllocError>, now: u64) {
+        if listed.is_err() {
             self.counts.calls.missed.add(1);
             self.note_refusal(now);
         }
+    }
+
+    /// Carries the call of this number at a later moment, in milliseconds, or sooner where it is due sooner.
+    fn carry_at<R: Wait>(&self, rt: &R, number: u64, due: u64, now: u64) {
+        self.note_missed(self.calls.schedule.add(rt, number, due), now);
+    }
+
+    /// Has a call that no other thread looks at meanwhile carried when it is due next, and not before.
+    fn schedule_next<R: Wait>(&self, rt: &R, number: u64, next: Next, now: u64) {
+        let due = match next {
+            Next::At(due) if due > now => self.look_for(number, due),
+            Next::At(due) => due,
+            Next::Nothing | Next::Over(_) | Next::Refused => return,
+        };
+        self.note_missed(self.calls.schedule.set(rt, number, due), now);
     }
 
     /// The moment at which a call is looked at that is due later, in milliseconds. Those of which each branch has ended wait for their last
@@ -175,7 +190,7 @@ impl<A: Allocator + Copy> Service<A> {
         self.terms.has_journal.then_some(TargetSet::none())
     }
 
-    /// Carries a call, and answers what is to be done next.
+    /// Carries a call, and answers what is to be done next: one that is due later is carried then, unless it changes before.
     fn carried<R: Wait + Clock, P: Port>(
         &self,
         rt: &R,
@@ -195,11 +210,13 @@ impl<A: Allocator + Copy> Service<A> {
         let carried = carry(call, &mut answers, now);
         self.note_answer(call, answers.has_answered, now);
         self.note_call(rt, call, visit, answers.cancels);
-        match carried {
+        let next = match carried {
             Ok(carried) if !carried.more => self.left(rt, call, block),
             Ok(_) => Next::At(now),
             Err(AllocError) => Next::Refused,
-        }
+        };
+        self.schedule_next(rt, call.number(), next, now);
+        next
     }
 
     /// Counts a call that was forgotten, and how it ended.
@@ -248,19 +265,15 @@ impl<A: Allocator + Copy> Service<A> {
         self.carry_at(rt, number, now.saturating_add(wait), now);
     }
 
-    /// Does what is to be done next with the call of this number.
+    /// Does what is to be done next with the call of this number, beside looking at it when it is due.
     fn follow<R: Wait>(&self, rt: &R, number: u64, next: Next, block: &[u8], now: u64) {
         if !matches!(next, Next::Refused) {
             self.calls.refusals.clear(rt, number);
         }
         match next {
-            Next::At(due) if due > now => {
-                self.carry_at(rt, number, self.look_for(number, due), now);
-            }
-            Next::At(due) => self.carry_at(rt, number, due, now),
             Next::Over(failure) => self.forget(rt, number, failure, block, now),
             Next::Refused => self.carry_later(rt, number, now),
-            Next::Nothing => {}
+            Next::At(_) | Next::Nothing => {}
         }
     }
 

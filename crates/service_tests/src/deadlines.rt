@@ -33,6 +33,18 @@ fn each_number_that_is_due_comes_once(rt: HostRuntime) -> Result<(), Fail> {
 }
 
 #[test]
+fn the_last_deadline_that_was_set_counts(rt: HostRuntime) -> Result<(), Fail> {
+    let schedule = Schedule::new(rt.alloc())?;
+    let _ = schedule.add(&rt, 7, 10);
+    let _ = schedule.set(&rt, 7, 30);
+    let early = schedule.take_due(&rt, 20);
+    holds(&rt, early.is_none(), "the earlier moment counts no more");
+    let due = schedule.take_due(&rt, 30);
+    holds(&rt, due == Some(7), "the later one does");
+    Ok(())
+}
+
+#[test]
 fn a_number_can_be_added_again(rt: HostRuntime) -> Result<(), Fail> {
     let schedule = Schedule::new(rt.alloc())?;
     let _ = schedule.add(&rt, 7, 10);
