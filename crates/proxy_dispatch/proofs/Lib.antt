@@ -6,3 +6,4 @@ pub mod Homes
 pub mod Purposes
 pub mod Rejecting
 pub mod Becoming
+pub mod Users

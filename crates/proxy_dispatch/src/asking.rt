@@ -1,11 +1,14 @@
 //! OPTIONS requests to the proxy itself.
-ghost use Rattle.std.specs.Prelude.{◌≡◌, IfOk};
+ghost use Rattle.std.specs.Prelude.{◌≡◌, IfOk, false};
+ghost use Rattle.std.specs.Bool.{OnTrue};
+ghost use Rattle.proxy_config.specs.Setup as spec;
 ghost use Rattle.sip_text.specs.Method.{known_method};
 ghost use Rattle.sip_uri.specs.Reading.{read_uri};
 ghost use Rattle.proxy_dispatch.specs.Asking.{asks_proxy, asks_service, is_options, is_proxy, is_proxy_if_read};
 
 use fork_call::Setup;
 use proxy_routing::is_domain;
+use sip_lex::cut_at;
 use sip_route::request_uri;
 use sip_text::{Message, Method};
 use sip_uri::{SipUri, UriFault};
@@ -26,6 +29,17 @@ fn is_proxy<A: Allocator + Clone>(setup: &Setup<A>, uri: &SipUri<A>) -> bool
     ensures { result ≡ is_proxy setup.now uri.now }
 {
     uri.user().is_none() && is_domain(setup, uri)
+}
+
+/// Whether a text names a user where it spells a URI: an `@` stands behind its scheme. It takes no memory.
+#[tactic(auto, using(crate::proofs::Users::with_a_user))]
+fn names_user(text: &[u8]) -> bool
+    ensures { OnTrue result ((setup : spec.Setup) → is_proxy_if_read setup (read_uri text.now) ≡ false) }
+{
+    match text.get(4..) {
+        Some(body) => cut_at(body, b'@').1.is_some(),
+        None => false,
+    }
 }
 
 /// Whether a Request-URI is a URI of the proxy's own.
@@ -51,10 +65,11 @@ fn asks_proxy<A: Allocator + Clone>(
 ) -> Result<bool, AllocError>
     ensures { IfOk result (λ asks. asks ≡ asks_proxy setup.now message.now) }
 {
-    if !is_options(message) || message.to_tag().is_some() {
+    let uri = request_uri(message);
+    if !is_options(message) || names_user(uri) || message.to_tag().is_some() {
         return Ok(false);
     }
-    names_proxy(alloc, setup, request_uri(message))
+    names_proxy(alloc, setup, uri)
 }
 
 /// Whether the proxy answers a request itself: it is a service, and the request is an OPTIONS request to it.
