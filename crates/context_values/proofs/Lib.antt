@@ -3,3 +3,4 @@ pub mod laws
 pub mod ByKeySteps
 pub mod GroupSteps
 pub mod NewRowLists
+pub mod Alike

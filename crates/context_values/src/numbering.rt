@@ -1,7 +1,9 @@
 //! The order in which targets are tried (RFC 3261 section 16.6).
-ghost use Rattle.std.specs.Prelude.{◌≡◌, ◌≤◌, ◌<◌, ◌++◌, All, length, map, IfOk, OnOk};
+ghost use Rattle.std.specs.Prelude.{◌≡◌, ◌≤◌, ◌<◌, ◌++◌, ◌==◌, All, length, map, IfOk, OnOk};
 ghost use Rattle.fork_model.specs.Table.{most_targets};
-ghost use Rattle.fork_model.specs.Groups.{in_group, numbered};
+ghost use Rattle.std.specs.Bool.{OnTrue};
+ghost use Rattle.std.specs.List.{list_all};
+ghost use Rattle.fork_model.specs.Groups.{in_group, numbered, numbers_below};
 ghost use Rattle.context_values.specs.RowExtras.{q_at, q_of_pair};
 
 use fork_rank::groups;
@@ -16,10 +18,54 @@ pub fn numbered<A: Allocator + Clone>(
     requires few { length qs.now ≤ most_targets }
     ensures { IfOk result (λ pairs. pairs.items ≡ numbered qs.now) }
 {
+    if are_alike(qs) {
+        return one_group(alloc, qs.len());
+    }
     let groups = groups(alloc.clone()?, qs)?;
     let mut pairs = Vec::new(alloc.clone()?);
     for (group, places) in groups.iter().enumerate() {
         push_group(&mut pairs, group as u16, places)?;
+    }
+    Ok(pairs)
+}
+
+/// Whether there is a q, and no other one.
+fn are_alike(qs: &[u16]) -> bool
+    ensures { OnTrue result (numbered qs.now ≡ in_group 0 (numbers_below (length qs.now))) }
+{
+    match qs.first() {
+        Some(q) => are_all(qs, *q),
+        None => false,
+    }
+}
+
+/// Whether each of some q, of which there is one, is this one.
+#[tactic(auto, using(crate::proofs::Alike::all_one_group))]
+fn are_all(qs: &[u16], q: u16) -> bool
+    requires some { 0 < length qs.now }
+    ensures { OnTrue result (numbered qs.now ≡ in_group 0 (numbers_below (length qs.now))) }
+{
+    are_equal(qs, q)
+}
+
+fn are_equal(qs: &[u16], q: u16) -> bool
+    ensures { result ≡ list_all (λ other. other == q) qs.now }
+{
+    qs.iter().all(|other| *other == q)
+}
+
+/// So many places, all of one group.
+#[tactic(auto, using(crate::proofs::Alike::one_more))]
+fn one_group<A: Allocator + Clone>(
+    alloc: &A,
+    count: usize,
+) -> Result<Vec<(u16, u16), A>, AllocError>
+    requires few { count ≤ most_targets }
+    ensures { IfOk result (λ pairs. pairs.items ≡ in_group 0 (numbers_below count)) }
+{
+    let mut pairs = Vec::with_capacity(alloc.clone()?, count)?;
+    for place in 0..count {
+        pairs.push((0, place as u16))?;
     }
     Ok(pairs)
 }
