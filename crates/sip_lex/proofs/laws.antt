@@ -1,4 +1,5 @@
 pub mod Cuts
+pub mod LineEnds
 pub mod Lines
 pub mod Numbers
 pub mod OutsideSplits

@@ -1,18 +1,27 @@
 //! Lines that end in CRLF.
 
-ghost use Rattle.std.specs.Prelude.{◌≡◌, ◌<◌, ◌++◌, ℕ, List, length, IfSome, IfNone};
+ghost use Rattle.std.specs.Prelude.{◌≡◌, ◌<◌, ◌++◌, ℕ, List, length, position, IfSome, IfNone};
 ghost use Rattle.sip_lex.specs.Line.{IsLine, ended, line_at, seen_line};
+ghost use Rattle.sip_lex.specs.inner.LineEnds.{is_end};
 
-use crate::cut::cut_at;
+use memchr::memchr2;
 
+/// The place of the first CR or LF.
+fn place_of_end(text: &[u8]) -> Option<usize>
+    ensures value { result ≡ position is_end text.now }
+    ensures within { IfSome result (λ i. i < length text.now) }
+{
+    memchr2(b'\r', b'\n', text)
+}
+
+#[tactic(auto, using(crate::proofs::laws::LineEnds::by_end))]
 fn line_at(text: &[u8]) -> Option<(&[u8], &[u8])>
     ensures value { seen_line result ≡ line_at text.now }
     ensures shorter { IfSome result (λ p. length p.1.now < length text.now) }
 {
-    let (piece, after) = cut_at(text, b'\n');
-    let after = after?;
-    match cut_at(piece, b'\r') {
-        (line, Some([])) => Some((line, after)),
+    let (line, end) = text.split_at(place_of_end(text)?);
+    match end {
+        [b'\r', b'\n', after @ ..] => Some((line, after)),
         _ => None,
     }
 }
