@@ -16,7 +16,7 @@ mod sheltered;
 mod space;
 
 pub use bytes::{are_digits, is_space, is_token, lowered};
-pub use cut::{cut_at, cut_at_space};
+pub use cut::{cut_at, cut_at_space, cut_near};
 pub use hex::{hex_digit, hex_value};
 pub use line::first_line;
 pub use number::{append_decimal, read_number, read_plain_number};

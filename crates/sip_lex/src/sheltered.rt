@@ -54,12 +54,23 @@ impl Place {
     }
 }
 
-/// How many bytes stand before the first that is the mark, a quote or an opening bracket.
-fn bare_len(text: &[u8], mark: u8) -> usize
+/// How many bytes stand before the first that is the mark, a quote or an opening bracket, found by a search.
+fn searched_len(text: &[u8], mark: u8) -> usize
     ensures value { result ≡ position_or_len (is_byte3 mark 34 60) text.now }
     ensures within { result ≤ length text.now }
 {
     memchr3(mark, b'"', b'<', text).unwrap_or(text.len())
+}
+
+/// How many bytes stand before the first that is the mark, a quote or an opening bracket: often none.
+fn bare_len(text: &[u8], mark: u8) -> usize
+    ensures value { result ≡ position_or_len (is_byte3 mark 34 60) text.now }
+    ensures within { result ≤ length text.now }
+{
+    match text {
+        [first, ..] if *first == mark || *first == b'"' || *first == b'<' => 0,
+        _ => searched_len(text, mark),
+    }
 }
 
 /// How many bytes stand before the first mark outside, found byte by byte.

@@ -2,9 +2,9 @@
 use crate::bytes::{has, holds_of, is};
 use crate::holds::holds;
 use sip_lex::{
-    Shelter, are_digits, cut_at, cut_at_space, cut_outside, cut_quoted, first_line, hex_digit,
-    hex_value, is_closed, is_space, is_token, lowered, read_number, read_plain_number, trim,
-    trim_end, trim_start,
+    Shelter, are_digits, cut_at, cut_at_space, cut_near, cut_outside, cut_quoted, first_line,
+    hex_digit, hex_value, is_closed, is_space, is_token, lowered, read_number, read_plain_number,
+    trim, trim_end, trim_start,
 };
 use std::alloc::Global;
 use std::process::Abort;
@@ -62,6 +62,7 @@ fn parts_are(
 fn cuts_in_two(rt: HostRuntime) {
     let text = b"a@b@c";
     parts_are(&rt, text, cut_at(text, b'@'), b"a", b"b@c");
+    parts_are(&rt, text, cut_near(text, b'@'), b"a", b"b@c");
     holds(
         &rt,
         cut_at(b"abc", b'@').1.is_none(),

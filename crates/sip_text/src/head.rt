@@ -12,7 +12,7 @@ ghost use Rattle.sip_text.specs.Seen.{header_in, headers_in, part_at};
 use crate::fault::ReadFault;
 use crate::place::{LinePlaces, Place, part_at, place_at_end};
 use crate::write::append_pieces;
-use sip_lex::{cut_at, first_line, is_space, is_token, trim, trim_end, trim_start};
+use sip_lex::{cut_near, first_line, is_space, is_token, trim, trim_end, trim_start};
 use std::alloc::{AllocError, Allocator};
 
 fn begins_with_space(text: &[u8]) -> bool
@@ -29,7 +29,7 @@ fn places_of(line: &[u8]) -> Option<LinePlaces>
     ensures value { option_map (header_in line.now) result ≡ header_of line.now [] }
     ensures within { IfSome result (λ places. IsLineWithin (length line.now) places) }
 {
-    let (front, raw) = cut_at(line, b':');
+    let (front, raw) = cut_near(line, b':');
     let raw = raw?;
     let name = trim_end(front);
     if !is_token(name) {

@@ -7,7 +7,7 @@ ghost use Rattle.sip_via.specs.inner.SentParts.{sent_parts};
 ghost use Rattle.sip_via.specs.ViaParts.{are_parts, is_port_if_any, is_trimmed, is_via, parts_of, port_and_params, port_if_any};
 
 use crate::params::are_params;
-use sip_lex::{cut_at, cut_at_space, is_token, trim, trim_end, trim_start};
+use sip_lex::{cut_at, cut_at_space, cut_near, is_token, trim, trim_end, trim_start};
 use sip_uri::{cut_host, is_host, read_port};
 
 /// The parts of a value, as they stand in the text.
@@ -29,7 +29,7 @@ fn port_and_params(tail: &[u8]) -> (Option<&[u8]>, Option<&[u8]>)
     match tail {
         [] => (None, None),
         [b':', rest @ ..] => {
-            let (port, params) = cut_at(rest, b';');
+            let (port, params) = cut_near(rest, b';');
             (Some(trim(port)), params)
         }
         [b';', rest @ ..] => (None, Some(rest)),

@@ -15,7 +15,7 @@ use crate::address::{add_address, add_number, is_address};
 use crate::cut::Cut;
 use crate::growing::Growing;
 use crate::params::Params;
-use sip_lex::{cut_at, trim, trim_end};
+use sip_lex::{cut_near, trim, trim_end};
 use sip_uri::Hop;
 use std::alloc::AllocError;
 
@@ -24,7 +24,7 @@ fn marks_of(param: &[u8]) -> (bool, bool)
     ensures received { result.0 ≡ is_named (codes "received") param.now }
     ensures asks { result.1 ≡ asks_port param.now }
 {
-    let (name, value) = cut_at(param, b'=');
+    let (name, value) = cut_near(param, b'=');
     let name = trim(name);
     let received = name.eq_ignore_ascii_case(b"received");
     let asks = name.eq_ignore_ascii_case(b"rport") && value.is_none();

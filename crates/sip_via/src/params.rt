@@ -7,7 +7,7 @@ ghost use Rattle.sip_lex.specs.Bytes.{trim};
 ghost use Rattle.sip_lex.specs.Quoted.{quoted_at};
 ghost use Rattle.sip_via.specs.ViaParts.{first_named, is_named, is_number, is_param, is_plain_value, is_rport, is_value, is_value_byte, is_value_if_any, is_whole, name_of, number_if_any, params_of, value_of};
 
-use sip_lex::{Shelter, cut_at, cut_outside, cut_quoted, is_space, is_token, read_number, trim};
+use sip_lex::{Shelter, cut_near, cut_outside, cut_quoted, is_space, is_token, read_number, trim};
 use std::marker::Model;
 
 /// The first parameter, and what stands behind its `;`.
@@ -70,7 +70,7 @@ impl<'a> Iterator for Params<'a> {
 fn name_of(param: &[u8]) -> &[u8]
     ensures { result.now ≡ name_of param.now }
 {
-    trim(cut_at(param, b'=').0)
+    trim(cut_near(param, b'=').0)
 }
 
 /// A text, if there is one, without the space round it.
@@ -84,7 +84,7 @@ fn trim_if_any(text: Option<&[u8]>) -> Option<&[u8]>
 pub(crate) fn value_of(param: &[u8]) -> Option<&[u8]>
     ensures { option_copied result ≡ value_of param.now }
 {
-    trim_if_any(cut_at(param, b'=').1)
+    trim_if_any(cut_near(param, b'=').1)
 }
 
 /// Whether a parameter has that name, in any case.
@@ -140,7 +140,7 @@ fn is_value_if_any(value: Option<&[u8]>) -> bool
 fn is_param(param: &[u8]) -> bool
     ensures { result ≡ is_param param.now }
 {
-    let (name, value) = cut_at(param, b'=');
+    let (name, value) = cut_near(param, b'=');
     is_token(trim(name)) && is_value_if_any(trim_if_any(value))
 }
 
