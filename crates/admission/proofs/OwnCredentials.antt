@@ -4,8 +4,8 @@ use Rattle.std.specs.Prelude.{IsTrue, ◌↔◌, is_some}
 use Rattle.sip_text.specs.Name.{same_name}
 use Rattle.sip_digest.specs.AuthParam.{AuthParam}
 use Rattle.sip_digest.specs.Credentials.{IsOfRealm}
-use Rattle.sip_digest.specs.declared.reading.Reading.{Reading}
-use Rattle.sip_digest.specs.declared.reading.Reading.TheVariants as reading
+use Rattle.sip_digest.specs.declared.reading.ReadCredentials.{ReadCredentials}
+use Rattle.sip_digest.specs.declared.reading.ReadCredentials.TheVariants as reading
 use Rattle.sip_digest.specs.SeenCredentials.{IsReadingOf, seen_reading}
 use Rattle.admission.specs.OwnCredentials.{IsTakenOff}
 use Rattle.admission.proofs.Tokens.{differ, false_true}
@@ -21,7 +21,7 @@ module _ (realm name value : List ℕ) where
       → IsTrue true ↔ IsTakenOff realm name value
   of_realm params whole named is = (λ t. (named, params, whole, is), λ k. refl)
 
-  pub by_reading : {A : Type 0} (r : Reading A) → same_name (codes "proxy-authorization") name ≡ true → IsReadingOf value realm r
+  pub by_reading : {A : Type 0} (r : ReadCredentials A) → same_name (codes "proxy-authorization") name ≡ true → IsReadingOf value realm r
       → IsTrue (is_some (seen_reading r)) ↔ IsTakenOff realm name value
   by_reading reading.OtherRealm named found = other_realm found
   by_reading reading.Unreadable named found = of_realm found.0 found.1 named found.2

@@ -1,7 +1,7 @@
 -- Whether a request belongs to a dialog that went by the proxy, part by part.
 use Rattle.std.proofs.Common.{◌≡◌, ℕ, Bool, true, false, List, Option, Some, None, sym, subst}
 use Rattle.std.specs.Prelude.{IsTrue, ◌↔◌, is_some}
-use Rattle.sip_text.specs.declared.needed.Needed.TheVariants.{To}
+use Rattle.sip_text.specs.declared.needed.MandatoryHeader.TheVariants.{To}
 use Rattle.sip_text.specs.Fields.{value_of}
 use Rattle.sip_text.specs.Tag.{tag_in}
 use Rattle.sip_text.specs.Text.{MessageText}

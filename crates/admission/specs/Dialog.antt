@@ -3,10 +3,10 @@
 use Rattle.std.specs.Prelude.{◌≡◌, ℕ, true, List, Option, Some, find, is_some, option_and_then, codes}
 use Rattle.std.specs.Option.{option_map}
 use Rattle.sip_lex.specs.declared.sheltered.Shelter.TheVariants.{QuotesAndAngles}
-use Rattle.sip_lex.specs.declared.sheltered.Place.TheVariants.{Plain}
+use Rattle.sip_lex.specs.declared.sheltered.ShelterState.TheVariants.{Plain}
 use Rattle.sip_lex.specs.Cut.{cut, is}
 use Rattle.sip_lex.specs.Sheltered.{cut_outside}
-use Rattle.sip_text.specs.declared.needed.Needed.TheVariants.{To}
+use Rattle.sip_text.specs.declared.needed.MandatoryHeader.TheVariants.{To}
 use Rattle.sip_text.specs.Fields.{value_of}
 use Rattle.sip_text.specs.Name.{first_value}
 use Rattle.sip_text.specs.Tag.{tag_in}

@@ -2,12 +2,12 @@
 use Rattle.std.specs.Prelude.{ℕ, Vec}
 use Rattle.std.specs.Option.{option_map}
 use Rattle.authentication.specs.SeenRealm.{realm_if_any}
-use Rattle.admission.specs.declared.decision.Admission.{Admission}
+use Rattle.admission.specs.declared.decision.CallAdmission.{CallAdmission}
 use Rattle.admission.specs.declared.decision.Decision.{Decision}
 use Rattle.admission.specs.declared.decision.Decision.TheVariants as decision
 use Rattle.admission.specs.Decision as spec
 
-abbrev pub seen_admission : {U : Type 0} → Admission U → spec.Admission
+abbrev pub seen_admission : {U : Type 0} → CallAdmission U → spec.Admission
 seen_admission admission = record { domain = admission.domain; realm = realm_if_any admission.realm; secret = admission.secret.now; serves_strangers = admission.serves_strangers }
 
 abbrev pub seen_decision : {A : Type 0} → Decision A → spec.Decision

@@ -10,9 +10,7 @@ ghost use Rattle.admission.specs.SeenDecision.{seen_admission, seen_decision};
 
 use crate::dialog::is_of_dialog;
 use crate::sender::{claims_domain, is_from};
-use authentication::{
-    Answer, Challenger, Domain, Realm, Standing, is_of_domain, party_uri, standing_of, turned_away,
-};
+use authentication::{Challenger, Domain, OwnAnswer, RealmSecrets, Standing, is_of_domain, party_uri, standing_of, turned_away};
 use sip_build::OwnStatus;
 use sip_route::request_uri;
 use sip_text::Message;
@@ -22,10 +20,10 @@ use std::alloc::{AllocError, Allocator, Global};
 
 /// Whom a proxy serves.
 #[derive(Drop)]
-pub struct Admission<'a, U: Allocator = Global> {
+pub struct CallAdmission<'a, U: Allocator = Global> {
     pub domain: Domain<'a>,
     /// Where credentials are asked for.
-    pub realm: Option<&'a Realm<'a, U>>,
+    pub realm: Option<&'a RealmSecrets<'a, U>>,
     /// What the tokens of dialogs are made with.
     pub secret: &'a [u8; 32],
     /// Whether strangers may call the users of the domain.
@@ -68,7 +66,7 @@ pub enum Decision<A: Allocator = Global> {
     /// It is opened by this rule.
     Opens(Rule),
     /// It is answered so, and, where there is a name, it is noted that wrong credentials came for it.
-    Turned(Answer<A>, Option<Vec<u8, A>>),
+    Turned(OwnAnswer<A>, Option<Vec<u8, A>>),
 }
 
 /// Whether the Request-URI is of the domain.
@@ -128,7 +126,7 @@ fn noted_of<A: Allocator, C: Allocator>(
 fn turned<A: Allocator>(alloc: A, status: OwnStatus) -> Decision<A>
     ensures { seen_decision result ≡ plain_turned status }
 {
-    Decision::Turned(Answer::new(alloc, status), None)
+    Decision::Turned(OwnAnswer::new(alloc, status), None)
 }
 
 /// What is decided where the sender has the password of the user of this name.
@@ -142,7 +140,7 @@ fn proved<A: Allocator + Clone>(
     if is_from(name, from) {
         return Ok(Decision::Opens(Rule::Password));
     }
-    let answer = Answer::new(alloc.clone()?, OwnStatus::Forbidden);
+    let answer = OwnAnswer::new(alloc.clone()?, OwnStatus::Forbidden);
     let noted = Vec::from_slice(alloc.clone()?, name)?;
     Ok(Decision::Turned(answer, Some(noted)))
 }
@@ -150,7 +148,7 @@ fn proved<A: Allocator + Clone>(
 /// What is decided of a request that claims to come from the domain, whose sender has not shown that he may send it.
 fn unproved<A: Allocator + Clone, U: Allocator>(
     alloc: &A,
-    admission: &Admission<'_, U>,
+    admission: &CallAdmission<'_, U>,
     arrival: Arrival,
     standing: &Standing<'_, A>,
 ) -> Result<Decision<A>, AllocError>
@@ -171,7 +169,7 @@ fn unproved<A: Allocator + Clone, U: Allocator>(
 /// What is decided of a request that claims to come from the domain, and whose sender stands so.
 fn claimed<A: Allocator + Clone, U: Allocator>(
     alloc: &A,
-    admission: &Admission<'_, U>,
+    admission: &CallAdmission<'_, U>,
     arrival: Arrival,
     from: &Option<SipUri<A>>,
     standing: &Standing<'_, A>,
@@ -191,7 +189,7 @@ fn claimed<A: Allocator + Clone, U: Allocator>(
 /// What is decided of a request that claims to come from the domain.
 fn of_domain<M: Allocator, A: Allocator + Clone, U: Allocator + Clone>(
     alloc: &A,
-    admission: &Admission<'_, U>,
+    admission: &CallAdmission<'_, U>,
     arrival: Arrival,
     message: &Message<M>,
     from: &Option<SipUri<A>>,
@@ -215,7 +213,7 @@ fn of_domain<M: Allocator, A: Allocator + Clone, U: Allocator + Clone>(
 /// What is decided of a request of one who does not claim to be of the domain.
 fn other<M: Allocator, A: Allocator + Clone, U: Allocator>(
     alloc: &A,
-    admission: &Admission<'_, U>,
+    admission: &CallAdmission<'_, U>,
     arrival: Arrival,
     message: &Message<M>,
 ) -> Result<Decision<A>, AllocError>
@@ -232,7 +230,7 @@ fn other<M: Allocator, A: Allocator + Clone, U: Allocator>(
 /// What is decided of a request with this From, which claims to come from the domain or not.
 fn of_sender<M: Allocator, A: Allocator + Clone, U: Allocator + Clone>(
     alloc: &A,
-    admission: &Admission<'_, U>,
+    admission: &CallAdmission<'_, U>,
     arrival: Arrival,
     message: &Message<M>,
     claims: bool,
@@ -251,7 +249,7 @@ fn of_sender<M: Allocator, A: Allocator + Clone, U: Allocator + Clone>(
 /// What is decided of a request of no dialog, whose source is not trusted.
 fn of_stranger<M: Allocator, A: Allocator + Clone, U: Allocator + Clone>(
     alloc: &A,
-    admission: &Admission<'_, U>,
+    admission: &CallAdmission<'_, U>,
     arrival: Arrival,
     message: &Message<M>,
 ) -> Result<Decision<A>, AllocError>
@@ -266,7 +264,7 @@ fn of_stranger<M: Allocator, A: Allocator + Clone, U: Allocator + Clone>(
 /// What is decided of a request whose source is not trusted.
 fn of_untrusted<M: Allocator, A: Allocator + Clone, U: Allocator + Clone>(
     alloc: &A,
-    admission: &Admission<'_, U>,
+    admission: &CallAdmission<'_, U>,
     arrival: Arrival,
     message: &Message<M>,
 ) -> Result<Decision<A>, AllocError>
@@ -287,7 +285,7 @@ fn of_untrusted<M: Allocator, A: Allocator + Clone, U: Allocator + Clone>(
 /// What is decided of a request that the checks do not refuse, whose source is trusted or not.
 fn of_source<M: Allocator, A: Allocator + Clone, U: Allocator + Clone>(
     alloc: &A,
-    admission: &Admission<'_, U>,
+    admission: &CallAdmission<'_, U>,
     arrival: Arrival,
     message: &Message<M>,
     trusted: bool,
@@ -304,7 +302,7 @@ fn of_source<M: Allocator, A: Allocator + Clone, U: Allocator + Clone>(
 /// What is decided of a request that is none for the registrar.
 fn of_call<M: Allocator, A: Allocator + Clone, U: Allocator + Clone>(
     alloc: &A,
-    admission: &Admission<'_, U>,
+    admission: &CallAdmission<'_, U>,
     arrival: Arrival,
     message: &Message<M>,
 ) -> Result<Decision<A>, AllocError>
@@ -319,7 +317,7 @@ fn of_call<M: Allocator, A: Allocator + Clone, U: Allocator + Clone>(
 /// What is decided of a request, which is for the registrar or not.
 fn of_request<M: Allocator, A: Allocator + Clone, U: Allocator + Clone>(
     alloc: &A,
-    admission: &Admission<'_, U>,
+    admission: &CallAdmission<'_, U>,
     arrival: Arrival,
     message: &Message<M>,
     registers: bool,
@@ -345,7 +343,7 @@ fn of_request<M: Allocator, A: Allocator + Clone, U: Allocator + Clone>(
 /// Only where the allocator refuses.
 pub fn decision_of<M: Allocator, A: Allocator + Clone, U: Allocator + Clone>(
     alloc: A,
-    admission: &Admission<'_, U>,
+    admission: &CallAdmission<'_, U>,
     arrival: Arrival,
     message: &Message<M>,
 ) -> Result<Decision<A>, AllocError>

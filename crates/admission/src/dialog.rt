@@ -9,7 +9,7 @@ ghost use Rattle.admission.specs.Dialog.{IsOfDialog, IsOwnWithToken, first_route
 use authentication::{UriParams, is_uri_param};
 use sip_digest::is_good_dialog_token;
 use sip_lex::{Shelter, cut_at, cut_outside};
-use sip_route::names_own;
+use sip_route::leads_to_proxy;
 use sip_text::Message;
 use sip_via::Own;
 use std::alloc::Allocator;
@@ -69,7 +69,7 @@ fn token_of(value: &[u8]) -> Option<&[u8]>
 fn is_own_with_token(secret: &[u8; 32], own: Own, second: u32, call_id: &[u8], value: &[u8]) -> bool
     ensures { IsTrue result ↔ IsOwnWithToken secret.now own second call_id.now value.now }
 {
-    if !names_own(own, value) {
+    if !leads_to_proxy(own, value) {
         return false;
     }
     match token_of(value) {

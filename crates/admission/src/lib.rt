@@ -8,7 +8,7 @@ mod law;
 mod own_credentials;
 mod sender;
 
-pub use decision::{Admission, Arrival, Decision, Rule, decision_of, is_for_registrar};
+pub use decision::{Arrival, CallAdmission, Decision, Rule, decision_of, is_for_registrar};
 pub use dialog::is_of_dialog;
 pub use law::{requests_are_decided_in_one_way, strangers_open_nothing_else};
 pub use own_credentials::is_taken_off;

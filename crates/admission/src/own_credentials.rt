@@ -4,7 +4,7 @@ ghost use Rattle.sip_text.specs.Name.{same_name};
 ghost use Rattle.sip_digest.specs.SeenCredentials.{seen_reading};
 ghost use Rattle.admission.specs.OwnCredentials.{IsTakenOff};
 
-use sip_digest::{Reading, read_credentials};
+use sip_digest::{ReadCredentials, read_credentials};
 use sip_text::HeaderLine;
 use std::alloc::{AllocError, Allocator};
 
@@ -17,13 +17,13 @@ fn is_proxy_authorization(name: &[u8]) -> bool
 }
 
 /// Whether a value has something for the realm.
-fn is_of_realm<A: Allocator>(reading: &Reading<'_, A>) -> bool
+fn is_of_realm<A: Allocator>(reading: &ReadCredentials<'_, A>) -> bool
     ensures { result ≡ is_some (seen_reading reading.now) }
 {
     match reading {
-        Reading::OtherRealm => false,
-        Reading::Unreadable => true,
-        Reading::Read(_) => true,
+        ReadCredentials::OtherRealm => false,
+        ReadCredentials::Unreadable => true,
+        ReadCredentials::Read(_) => true,
     }
 }
 

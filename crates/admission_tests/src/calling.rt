@@ -3,8 +3,8 @@ use crate::answers::{Wanted, is_answer};
 use crate::passwords::{Password, line_if_any};
 use crate::requests::{joined, request};
 use crate::world::{SECOND, SECRET, domain, realm, users};
-use admission::{Admission, Arrival, Decision, Rule, decision_of, is_for_registrar, is_of_dialog};
-use authentication::Realm;
+use admission::{Arrival, CallAdmission, Decision, Rule, decision_of, is_for_registrar, is_of_dialog};
+use authentication::RealmSecrets;
 use sip_build::OwnStatus;
 use sip_digest::append_dialog_token;
 use sip_text::Message;
@@ -126,11 +126,11 @@ fn is_of_its_kind(alloc: Global, row: &Row, message: &Message<Global>) -> bool {
 /// Whether it is decided of a request what has to be, in this realm or in none.
 fn decides_in(
     alloc: Global,
-    realm: Option<&Realm<'_>>,
+    realm: Option<&RealmSecrets<'_>>,
     row: &Row,
     message: &Message<Global>,
 ) -> bool {
-    let admission = Admission {
+    let admission = CallAdmission {
         domain: domain(),
         realm,
         secret: &SECRET,

@@ -1,5 +1,5 @@
 //! The proxy of the tests: its domain, its realm, and who has a password there.
-use authentication::{Domain, Realm};
+use authentication::{Domain, RealmSecrets};
 use sip_digest::Algorithms;
 use sip_via::Own;
 use std::alloc::{AllocError, Global};
@@ -37,6 +37,6 @@ pub fn users(alloc: Global) -> Option<UserList> {
 }
 
 /// The realm example.com, which challenges by SHA-256 and then by MD5.
-pub fn realm(users: &UserList) -> Option<Realm<'_>> {
-    Realm::new(b"example.com", Algorithms::Sha256AndMd5, users, &SECRET)
+pub fn realm(users: &UserList) -> Option<RealmSecrets<'_>> {
+    RealmSecrets::new(b"example.com", Algorithms::Sha256AndMd5, users, &SECRET)
 }

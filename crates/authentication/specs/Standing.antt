@@ -4,9 +4,9 @@ use Rattle.sip_text.specs.Name.{values_of}
 use Rattle.sip_text.specs.Text.{MessageText, method_in}
 use Rattle.sip_route.specs.Loop.{request_uri}
 use Rattle.sip_via.specs.ViaParts.{or_empty}
-use Rattle.sip_digest.specs.declared.verdict.Asked.{Asked}
-use Rattle.sip_digest.specs.declared.verdict.Verdict.{Verdict}
-use Rattle.sip_digest.specs.declared.verdict.Verdict.TheVariants as verdict
+use Rattle.sip_digest.specs.declared.verdict.JudgedRequest.{JudgedRequest}
+use Rattle.sip_digest.specs.declared.verdict.CredentialsVerdict.{CredentialsVerdict}
+use Rattle.sip_digest.specs.declared.verdict.CredentialsVerdict.TheVariants as verdict
 use Rattle.sip_digest.specs.Credentials.{Credentials}
 use Rattle.sip_digest.specs.Right.{IsAnswered, IsUriOf}
 use Rattle.sip_digest.specs.Stamp.{IsGoodNonce}
@@ -40,7 +40,7 @@ pub record Arrival : Type 0 where
 abbrev pub arrival_of : MessageText → (address : List ℕ) → (second : ℕ) → Arrival
 arrival_of m address second = record { method = or_empty (method_in m.start); uri = request_uri m.start; address = address; second = second }
 
-abbrev pub asked_as : Asked → Arrival
+abbrev pub asked_as : JudgedRequest → Arrival
 asked_as asked = record { method = asked.method.now; uri = asked.uri.now; address = asked.address.now; second = asked.second }
 
 -- their nonce is not good for the address that they came from
@@ -52,7 +52,7 @@ pub record AreRight (realm : Realm) (arrival : Arrival) (c : Credentials) : Type
   pub uri : IsUriOf c.uri arrival.uri
   pub answered : IsAnswered realm.algorithms (realm.secrets c.username) arrival.method c
 
-abbrev pub IsVerdictOn : Realm → Arrival → Credentials → Verdict → Type 0
+abbrev pub IsVerdictOn : Realm → Arrival → Credentials → CredentialsVerdict → Type 0
 IsVerdictOn realm arrival c verdict.Right = AreRight realm arrival c
 IsVerdictOn realm arrival c verdict.Stale = IsStale realm arrival c
 IsVerdictOn realm arrival c verdict.Wrong = (IsStale realm arrival c → ⊥) × (AreRight realm arrival c → ⊥)

@@ -1,6 +1,6 @@
 //! Answers that a server makes of its own: a status, and the header lines that it has beside those that each answer has.
 
-use sip_build::{OwnStatus, write_generated};
+use sip_build::{OwnStatus, write_own_response};
 use sip_text::{HeaderLine, Message};
 use std::alloc::{AllocError, Allocator, Global};
 use std::marker::Model;
@@ -23,12 +23,12 @@ impl<A: Allocator> Model for AnswerLine<A> {
 
 /// An answer to a request: its status, and its further lines.
 #[derive(Drop)]
-pub struct Answer<A: Allocator = Global> {
+pub struct OwnAnswer<A: Allocator = Global> {
     status: OwnStatus,
     lines: Vec<AnswerLine<A>, A>,
 }
 
-impl<A: Allocator> Model for Answer<A> {
+impl<A: Allocator> Model for OwnAnswer<A> {
     ghost use Rattle.std.specs.Prelude.{◌≡◌, true};
     ghost use Rattle.std.specs.List.{list_all};
     ghost use Rattle.sip_text.specs.Message.{is_header};
@@ -55,7 +55,7 @@ impl<A: Allocator> AnswerLine<A> {
     }
 }
 
-impl<A: Allocator> Answer<A> {
+impl<A: Allocator> OwnAnswer<A> {
     ghost use Rattle.std.specs.Prelude.{◌≡◌, ◌++◌, true, IfOk, OnErr, OnOk};
     ghost use Rattle.std.specs.List.{list_all};
     ghost use Rattle.sip_text.specs.Message.{is_header};
@@ -66,10 +66,10 @@ impl<A: Allocator> Answer<A> {
     ghost use Rattle.authentication.specs.Answer.{plain, with_line};
 
     /// An answer of this status without further lines.
-    pub fn new(alloc: A, status: OwnStatus) -> Answer<A>
+    pub fn new(alloc: A, status: OwnStatus) -> OwnAnswer<A>
         ensures { result ≡ plain status }
     {
-        Answer {
+        OwnAnswer {
             status,
             lines: Vec::new(alloc),
         }
@@ -130,6 +130,6 @@ impl<A: Allocator> Answer<A> {
         ensures err { OnErr result (out.new.items ≡ out.old.items) }
     {
         let further = self.further_lines(alloc)?;
-        write_generated(request, self.status, &further, out)
+        write_own_response(request, self.status, &further, out)
     }
 }

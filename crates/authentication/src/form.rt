@@ -3,7 +3,7 @@ ghost use Rattle.std.specs.Prelude.{◌≡◌, ◌∷◌, Some};
 ghost use Rattle.std.specs.List.{list_all};
 ghost use Rattle.std.specs.Option.{option_copied};
 ghost use Rattle.sip_lex.specs.declared.sheltered.Shelter.TheVariants.{Quotes, QuotesAndAngles};
-ghost use Rattle.sip_lex.specs.declared.sheltered.Place.TheVariants.{Plain};
+ghost use Rattle.sip_lex.specs.declared.sheltered.ShelterState.TheVariants.{Plain};
 ghost use Rattle.sip_lex.specs.Cut.{cut, is};
 ghost use Rattle.sip_lex.specs.Params.{name_of, value_of};
 ghost use Rattle.sip_lex.specs.Sheltered.{cut_outside};
@@ -133,7 +133,7 @@ fn name_of(param: &[u8]) -> &[u8]
 }
 
 /// What stands behind the `=` of a parameter, without space round it, if it has one.
-pub fn value_of(param: &[u8]) -> Option<&[u8]>
+pub fn param_value(param: &[u8]) -> Option<&[u8]>
     ensures { option_copied result ≡ value_of param.now }
 {
     match cut_at(param, b'=').1 {
@@ -148,7 +148,7 @@ fn is_contact_param(param: &[u8]) -> bool
     if name_of(param).is_empty() {
         return false;
     }
-    match value_of(param) {
+    match param_value(param) {
         None => true,
         Some(value) => !value.is_empty(),
     }

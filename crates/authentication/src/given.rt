@@ -4,7 +4,7 @@ ghost use Rattle.sip_text.specs.Name.{values_of};
 ghost use Rattle.sip_digest.specs.SeenCredentials.{seen_reading};
 ghost use Rattle.authentication.specs.Given.{IsGiven};
 
-use sip_digest::{Reading, read_credentials};
+use sip_digest::{ReadCredentials, read_credentials};
 use sip_text::Message;
 use std::alloc::{AllocError, Allocator};
 
@@ -14,15 +14,15 @@ pub(crate) fn given_in<'a, M: Allocator, A: Allocator + Clone>(
     message: &'a Message<M>,
     name: &[u8],
     realm: &[u8],
-) -> Result<Reading<'a, A>, AllocError>
+) -> Result<ReadCredentials<'a, A>, AllocError>
     ensures { IfOk result (λ reading. IsGiven (values_of name.now message.now.headers) realm.now (seen_reading reading)) }
 {
     let mut values = message.values(name);
     while let Some(value) = values.next() {
         match read_credentials(alloc.clone()?, value, realm)? {
-            Reading::OtherRealm => {}
+            ReadCredentials::OtherRealm => {}
             reading => return Ok(reading),
         }
     }
-    Ok(Reading::OtherRealm)
+    Ok(ReadCredentials::OtherRealm)
 }

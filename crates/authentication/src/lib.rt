@@ -16,13 +16,13 @@ mod standing;
 mod tail;
 
 pub use address::append_address;
-pub use answer::{Answer, AnswerLine};
+pub use answer::{AnswerLine, OwnAnswer};
 pub use challenge::Challenger;
 pub use domain::{Domain, is_of_domain};
-pub use form::{ContactParams, are_contact_params, form_of, is_named, param_named, value_of};
+pub use form::{ContactParams, are_contact_params, form_of, is_named, param_named, param_value};
 pub use note::append_note;
 pub use party::{is_anonymous, party_uri};
-pub use realm::Realm;
+pub use realm::RealmSecrets;
 pub use refusal::turned_away;
 pub use standing::{Standing, standing_of};
 pub use tail::{UriParams, is_uri_param, port_of_uri};

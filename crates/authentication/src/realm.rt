@@ -9,7 +9,7 @@ use user_list::UserList;
 
 /// The realm that credentials are asked for, and who has a password there (RFC 3261 section 22.1).
 #[derive(Drop)]
-pub struct Realm<'a, U: Allocator = Global> {
+pub struct RealmSecrets<'a, U: Allocator = Global> {
     /// Its name, as a challenge has it.
     pub name: &'a [u8],
     /// By which it challenges.
@@ -32,7 +32,7 @@ fn is_realm_name(name: &[u8]) -> bool
     name.iter().all(|byte| is_realm_byte(*byte))
 }
 
-impl<'a, U: Allocator> Realm<'a, U> {
+impl<'a, U: Allocator> RealmSecrets<'a, U> {
     ghost use Rattle.std.specs.Prelude.{◌↔◌, IfSome, IsSome};
     ghost use Rattle.authentication.specs.SeenRealm.{seen_realm, realm_of};
 
@@ -42,14 +42,14 @@ impl<'a, U: Allocator> Realm<'a, U> {
         algorithms: Algorithms,
         users: &'a UserList<U>,
         secret: &'a [u8; 32],
-    ) -> Option<Realm<'a, U>>
+    ) -> Option<RealmSecrets<'a, U>>
         ensures when { IsSome result ↔ (list_all is_realm_byte name.now ≡ true) }
         ensures value { IfSome result (λ realm. seen_realm realm ≡ realm_of name.now algorithms users.now secret.now) }
     {
         if !is_realm_name(name) {
             return None;
         }
-        Some(Realm {
+        Some(RealmSecrets {
             name,
             algorithms,
             users,

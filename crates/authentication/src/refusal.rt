@@ -13,9 +13,9 @@ ghost use Rattle.authentication.specs.SeenRealm.{realm_if_any, seen_realm};
 ghost use Rattle.authentication.specs.SeenStanding.{seen_standing};
 
 use crate::address::address_of;
-use crate::answer::Answer;
+use crate::answer::OwnAnswer;
 use crate::challenge::Challenger;
-use crate::realm::Realm;
+use crate::realm::RealmSecrets;
 use crate::standing::Standing;
 use sip_build::OwnStatus;
 use sip_digest::{Algorithm, append_challenge, append_nonce};
@@ -24,7 +24,7 @@ use std::alloc::{AllocError, Allocator};
 /// The value of a challenge by an algorithm.
 fn challenge_value<A: Allocator, U: Allocator>(
     alloc: A,
-    realm: &Realm<'_, U>,
+    realm: &RealmSecrets<'_, U>,
     nonce: &[u8],
     stale: bool,
     algorithm: Algorithm,
@@ -39,9 +39,9 @@ fn challenge_value<A: Allocator, U: Allocator>(
 /// Adds a challenge by an algorithm.
 fn add_challenge<A: Allocator + Clone, U: Allocator>(
     alloc: A,
-    answer: &mut Answer<A>,
+    answer: &mut OwnAnswer<A>,
     challenger: Challenger,
-    realm: &Realm<'_, U>,
+    realm: &RealmSecrets<'_, U>,
     nonce: &[u8],
     stale: bool,
     algorithm: Algorithm,
@@ -57,7 +57,7 @@ fn add_challenge<A: Allocator + Clone, U: Allocator>(
 #[tactic(auto, using(crate::proofs::Values::nonce_line))]
 fn nonce_for<A: Allocator + Clone, U: Allocator>(
     alloc: A,
-    realm: &Realm<'_, U>,
+    realm: &RealmSecrets<'_, U>,
     addr: [u8; 4],
     second: u32,
 ) -> Result<Vec<u8, A>, AllocError>
@@ -74,15 +74,15 @@ fn nonce_for<A: Allocator + Clone, U: Allocator>(
 fn challenged<A: Allocator + Clone, U: Allocator>(
     alloc: A,
     challenger: Challenger,
-    realm: &Realm<'_, U>,
+    realm: &RealmSecrets<'_, U>,
     addr: [u8; 4],
     second: u32,
     stale: bool,
-) -> Result<Answer<A>, AllocError>
+) -> Result<OwnAnswer<A>, AllocError>
     ensures { IfOk result (λ answer. answer ≡ challenged challenger (seen_realm realm.now) (address_text addr) second stale) }
 {
     let nonce = nonce_for(alloc.clone()?, realm, addr, second)?;
-    let mut answer = Answer::new(alloc.clone()?, challenger.status());
+    let mut answer = OwnAnswer::new(alloc.clone()?, challenger.status());
     let first = realm.algorithms.first();
     add_challenge(
         alloc.clone()?,
@@ -106,16 +106,16 @@ fn challenged<A: Allocator + Clone, U: Allocator>(
 fn turned_by<A: Allocator + Clone, C: Allocator, U: Allocator>(
     alloc: A,
     challenger: Challenger,
-    realm: &Realm<'_, U>,
+    realm: &RealmSecrets<'_, U>,
     addr: [u8; 4],
     second: u32,
     standing: &Standing<'_, C>,
-) -> Result<Answer<A>, AllocError>
+) -> Result<OwnAnswer<A>, AllocError>
     ensures { IfOk result (λ answer. answer ≡ turned_by challenger (seen_realm realm.now) (address_text addr) second (seen_standing standing.now)) }
 {
     match standing {
-        Standing::Unusable => Ok(Answer::new(alloc, OwnStatus::BadRequest)),
-        Standing::Right(_) => Ok(Answer::new(alloc, OwnStatus::Forbidden)),
+        Standing::Unusable => Ok(OwnAnswer::new(alloc, OwnStatus::BadRequest)),
+        Standing::Right(_) => Ok(OwnAnswer::new(alloc, OwnStatus::Forbidden)),
         Standing::Stale => challenged(alloc, challenger, realm, addr, second, true),
         Standing::Unasked | Standing::Anonymous | Standing::Wrong(_) => {
             challenged(alloc, challenger, realm, addr, second, false)
@@ -133,15 +133,15 @@ fn turned_by<A: Allocator + Clone, C: Allocator, U: Allocator>(
 pub fn turned_away<A: Allocator + Clone, C: Allocator, U: Allocator>(
     alloc: A,
     challenger: Challenger,
-    realm: Option<&Realm<'_, U>>,
+    realm: Option<&RealmSecrets<'_, U>>,
     addr: [u8; 4],
     second: u32,
     standing: &Standing<'_, C>,
-) -> Result<Answer<A>, AllocError>
+) -> Result<OwnAnswer<A>, AllocError>
     ensures { IfOk result (λ answer. answer ≡ turned_away challenger (realm_if_any realm.entry) (address_text addr) second (seen_standing standing.now)) }
 {
     match realm {
-        None => Ok(Answer::new(alloc, OwnStatus::Forbidden)),
+        None => Ok(OwnAnswer::new(alloc, OwnStatus::Forbidden)),
         Some(realm) => turned_by(alloc, challenger, realm, addr, second, standing),
     }
 }

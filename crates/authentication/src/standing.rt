@@ -9,8 +9,8 @@ ghost use Rattle.authentication.specs.SeenStanding.{seen_standing};
 use crate::address::address_of;
 use crate::challenge::Challenger;
 use crate::given::given_in;
-use crate::realm::Realm;
-use sip_digest::{Asked, AuthText, Credentials, Reading, Verdict, is_uri_of, verdict_of};
+use crate::realm::RealmSecrets;
+use sip_digest::{AuthText, Credentials, CredentialsVerdict, JudgedRequest, ReadCredentials, is_uri_of, verdict_of};
 use sip_route::request_uri;
 use sip_text::Message;
 use std::alloc::{AllocError, Allocator};
@@ -35,10 +35,10 @@ pub enum Standing<'a, A: Allocator> {
 /// The verdict on credentials that came with a request.
 fn verdict<A: Allocator + Clone, U: Allocator + Clone>(
     alloc: A,
-    realm: &Realm<'_, U>,
-    asked: &Asked<'_>,
+    realm: &RealmSecrets<'_, U>,
+    asked: &JudgedRequest<'_>,
     credentials: &Credentials<'_, A>,
-) -> Result<Verdict, AllocError>
+) -> Result<CredentialsVerdict, AllocError>
     ensures { IfOk result (λ verdict. IsVerdictOn (seen_realm realm.now) (asked_as asked.now) (seen_credentials credentials.now) verdict) }
 {
     let secrets = realm.users.secrets(credentials.username.as_slice());
@@ -51,17 +51,17 @@ fn verdict<A: Allocator + Clone, U: Allocator + Clone>(
         credentials,
     )?;
     match verdict {
-        Verdict::Right => Ok(Verdict::Right),
-        Verdict::Stale => Ok(Verdict::Stale),
-        Verdict::Wrong => Ok(Verdict::Wrong),
+        CredentialsVerdict::Right => Ok(CredentialsVerdict::Right),
+        CredentialsVerdict::Stale => Ok(CredentialsVerdict::Stale),
+        CredentialsVerdict::Wrong => Ok(CredentialsVerdict::Wrong),
     }
 }
 
 /// What credentials of the realm are worth.
 fn judged_of<'a, A: Allocator + Clone, U: Allocator + Clone>(
     alloc: &A,
-    realm: &Realm<'_, U>,
-    asked: &Asked<'_>,
+    realm: &RealmSecrets<'_, U>,
+    asked: &JudgedRequest<'_>,
     credentials: Credentials<'a, A>,
 ) -> Result<Standing<'a, A>, AllocError>
     ensures { IfOk result (λ standing. IsJudgedOf (seen_realm realm.now) (asked_as asked.now) (seen_credentials credentials.entry) (seen_standing standing)) }
@@ -73,33 +73,33 @@ fn judged_of<'a, A: Allocator + Clone, U: Allocator + Clone>(
     let verdict = verdict(alloc.clone()?, realm, asked, &credentials)?;
     let name = credentials.username;
     match verdict {
-        Verdict::Right => Ok(Standing::Right(name)),
-        Verdict::Stale => Ok(Standing::Stale),
-        Verdict::Wrong => Ok(Standing::Wrong(name)),
+        CredentialsVerdict::Right => Ok(Standing::Right(name)),
+        CredentialsVerdict::Stale => Ok(Standing::Stale),
+        CredentialsVerdict::Wrong => Ok(Standing::Wrong(name)),
     }
 }
 
 /// What the credentials that were read from a request are worth.
 fn judged<'a, A: Allocator + Clone, U: Allocator + Clone>(
     alloc: &A,
-    realm: &Realm<'_, U>,
-    asked: &Asked<'_>,
-    reading: Reading<'a, A>,
+    realm: &RealmSecrets<'_, U>,
+    asked: &JudgedRequest<'_>,
+    reading: ReadCredentials<'a, A>,
 ) -> Result<Standing<'a, A>, AllocError>
     ensures { IfOk result (λ standing. IsJudged (seen_realm realm.now) (asked_as asked.now) (seen_reading reading.entry) (seen_standing standing)) }
 {
     match reading {
-        Reading::OtherRealm => Ok(Standing::Anonymous),
-        Reading::Unreadable => Ok(Standing::Unusable),
-        Reading::Read(credentials) => judged_of(alloc, realm, asked, credentials),
+        ReadCredentials::OtherRealm => Ok(Standing::Anonymous),
+        ReadCredentials::Unreadable => Ok(Standing::Unusable),
+        ReadCredentials::Read(credentials) => judged_of(alloc, realm, asked, credentials),
     }
 }
 
 /// The request that credentials came with.
-fn asked_of<'a, M: Allocator>(message: &'a Message<M>, address: &'a [u8], second: u32) -> Asked<'a>
+fn asked_of<'a, M: Allocator>(message: &'a Message<M>, address: &'a [u8], second: u32) -> JudgedRequest<'a>
     ensures { asked_as result ≡ arrival_of message.now address.now second }
 {
-    Asked {
+    JudgedRequest {
         method: message.method().unwrap_or(b""),
         uri: request_uri(message),
         address,
@@ -111,7 +111,7 @@ fn asked_of<'a, M: Allocator>(message: &'a Message<M>, address: &'a [u8], second
 fn stands_for<'a, M: Allocator, A: Allocator + Clone, U: Allocator + Clone>(
     alloc: &A,
     challenger: Challenger,
-    realm: &Realm<'_, U>,
+    realm: &RealmSecrets<'_, U>,
     message: &'a Message<M>,
     addr: [u8; 4],
     second: u32,
@@ -136,7 +136,7 @@ pub fn standing_of<'a, M: Allocator, A: Allocator + Clone, U: Allocator + Clone>
     alloc: &A,
     wanted: bool,
     challenger: Challenger,
-    realm: Option<&Realm<'_, U>>,
+    realm: Option<&RealmSecrets<'_, U>>,
     message: &'a Message<M>,
     addr: [u8; 4],
     second: u32,

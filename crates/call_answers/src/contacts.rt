@@ -12,7 +12,7 @@ ghost use Rattle.call_model.specs.Response.{contact_for, contacts_at, contacts_b
 use call_branch::{Destination, OpenedRequest, is_redirection};
 use call_model::TriedContacts;
 use fork_context::Offer;
-use sip_text::{Message, Values};
+use sip_text::{HeaderValues, Message};
 use sip_uri::{Contact, SipUri, Transport, UriFault, read_contacts};
 use std::alloc::{AllocError, Allocator};
 
@@ -73,7 +73,7 @@ fn add_contacts<A: Allocator + Clone>(
 fn add_each<A: Allocator + Clone>(
     contacts: &mut Vec<Contact<A>, A>,
     alloc: &A,
-    mut values: Values<'_, '_>,
+    mut values: HeaderValues<'_, '_>,
 ) -> Result<(), AllocError>
     ensures { OnOk result (view_contacts contacts.new.items ≡ view_contacts contacts.old.items ++ flat_map contacts_at values.entry) }
 {

@@ -10,7 +10,7 @@ mod queue;
 mod response_event;
 mod rows;
 
-pub use owed::{again_if, first_owed, owed_by};
-pub use queue::{OwedAnswer, PendingResponse, PendingResponses, Queue};
+pub use owed::{initial_queue, resend_if, response_for};
+pub use queue::{OwedAnswer, PendingResponse, PendingResponses, ResponseQueue};
 pub use response_event::ResponseEvent;
-pub use rows::{add_rows, place_of};
+pub use rows::{add_rows, row_place};

@@ -7,7 +7,7 @@ ghost use Rattle.call_answers.specs.Queue.{owed_in};
 ghost use Rattle.call_model.specs.Server as server;
 ghost use Rattle.call_model.specs.Take.{again_if};
 
-use crate::queue::{OwedAnswer, Queue};
+use crate::queue::{OwedAnswer, ResponseQueue};
 use fork_context::{Kind, Up};
 use sip_text::Message;
 use std::alloc::{AllocError, Allocator};
@@ -17,22 +17,22 @@ use std::alloc::{AllocError, Allocator};
 /// # Errors
 ///
 /// Only where the allocator refuses.
-pub fn first_owed<A: Allocator>(alloc: A, kind: Kind) -> Result<Queue<A>, AllocError>
+pub fn initial_queue<A: Allocator>(alloc: A, kind: Kind) -> Result<ResponseQueue<A>, AllocError>
     ensures { IfOk result (λ owed. owed.items ≡ server.first_owed (kinds.kind_of kind)) }
 {
     match kind {
         Kind::Invite => {
-            let mut owed = Queue::with_room(alloc, 1)?;
-            owed.owe(OwedAnswer::Trying);
+            let mut owed = ResponseQueue::with_room(alloc, 1)?;
+            owed.enqueue(OwedAnswer::Trying);
             Ok(owed)
         }
-        Kind::Other => Queue::with_room(alloc, 0),
+        Kind::Other => ResponseQueue::with_room(alloc, 0),
     }
 }
 
 /// The answer that comes to be owed to the caller by what goes up; `response` is the response of a branch, where that
 /// goes up.
-pub fn owed_by<A: Allocator>(up: Up, response: Option<Message<A>>) -> Option<OwedAnswer<A>>
+pub fn response_for<A: Allocator>(up: Up, response: Option<Message<A>>) -> Option<OwedAnswer<A>>
     ensures { owed_in result ≡ owed_by (up_of up) response }
 {
     match up {
@@ -52,7 +52,7 @@ fn passed<A: Allocator>(response: Option<Message<A>>) -> Option<OwedAnswer<A>>
 }
 
 /// The answer that was sent last, to be sent again where the server transaction sends it.
-pub fn again_if<A: Allocator>(sends: bool) -> Option<OwedAnswer<A>>
+pub fn resend_if<A: Allocator>(sends: bool) -> Option<OwedAnswer<A>>
     ensures { owed_in result ≡ again_if sends }
 {
     if sends { Some(OwedAnswer::Again) } else { None }

@@ -97,11 +97,11 @@ impl<'a, A: Allocator> PendingResponses<'a, A> {
 
 /// The answers that are owed, with the room for those that come.
 #[derive(Drop)]
-pub struct Queue<A: Allocator> {
+pub struct ResponseQueue<A: Allocator> {
     answers: Vec<OwedAnswer<A>, A>,
 }
 
-impl<A: Allocator> Model for Queue<A> {
+impl<A: Allocator> Model for ResponseQueue<A> {
     ghost use Rattle.std.specs.Prelude.{◌-◌, map, vec_capacity, vec_len};
     ghost use Rattle.call_answers.specs.Queue as spec;
     ghost use Rattle.call_answers.specs.Queue.{owed_of};
@@ -111,7 +111,7 @@ impl<A: Allocator> Model for Queue<A> {
     ghost view = { λ q. record { items = map owed_of q.answers.items; left = vec_capacity q.answers - vec_len q.answers } };
 }
 
-impl<A: Allocator> Queue<A> {
+impl<A: Allocator> ResponseQueue<A> {
     /// A queue of which nothing is owed yet, with room for this many answers.
     ///
     /// # Errors
@@ -121,7 +121,7 @@ impl<A: Allocator> Queue<A> {
         ensures items { IfOk result (λ queue. queue.items ≡ []) }
         ensures room { IfOk result (λ queue. HasRoomFor queue answers) }
     {
-        Ok(Queue {
+        Ok(ResponseQueue {
             answers: Vec::with_capacity(alloc, answers)?,
         })
     }
@@ -139,7 +139,7 @@ impl<A: Allocator> Queue<A> {
     }
 
     /// Puts an answer behind the others that are owed.
-    pub fn owe(&mut self, answer: OwedAnswer<A>)
+    pub fn enqueue(&mut self, answer: OwedAnswer<A>)
         requires room { HasRoomFor self.old 1 }
         ensures items { self.new.items ≡ self.old.items ++ owed_of answer ∷ [] }
         ensures left { self.new.left + 1 ≡ self.old.left }
@@ -148,18 +148,18 @@ impl<A: Allocator> Queue<A> {
     }
 
     /// Puts the answer, if there is one, behind the others that are owed.
-    pub fn owe_if(&mut self, answer: Option<OwedAnswer<A>>)
+    pub fn enqueue_if(&mut self, answer: Option<OwedAnswer<A>>)
         requires room { HasRoomFor self.old 1 }
         ensures items { self.new.items ≡ self.old.items ++ owed_in answer }
     {
         if let Some(answer) = answer {
-            self.owe(answer);
+            self.enqueue(answer);
         }
     }
 
     /// Takes the first answer off, which is owed no more. Where nothing is left owed, the memory for more than one answer is
     /// given back, since a call may ring for long.
-    pub fn pay_first(&mut self)
+    pub fn dequeue(&mut self)
         requires some { 0 < length self.old.items }
         ensures { self.new.items ≡ drop 1 self.old.items }
     {

@@ -12,7 +12,7 @@ use std::alloc::Allocator;
 
 /// The place of the target or the contact that row n is for, among the targets or contacts that it came with (RFC 3261
 /// section 16.5).
-pub fn place_of<A: Allocator + Clone>(book: &Book<A>, n: u16) -> usize
+pub fn row_place<A: Allocator + Clone>(book: &Book<A>, n: u16) -> usize
     requires there { n < length (table_of book.now).rows }
     ensures { option_map (λ row. row.place) (slice_get (table_of book.now).rows n) ≡ Some result }
 {
@@ -53,7 +53,7 @@ pub fn add_rows<A: Allocator + Clone>(
 {
     let mut left = contacts;
     for n in first..book.context().count() {
-        let place = place_of(book, n);
+        let place = row_place(book, n);
         destinations.push_reserved(take_destination(&mut left, place));
         branches.push_reserved(None);
     }

@@ -55,7 +55,7 @@ impl<A: Allocator> CancelTransaction<A> {
     }
 
     /// The transaction of the CANCEL after an event, and what it sends and passes.
-    pub fn fed(&self, event: TxEvent, now: u64) -> (OtherClient, TxOut)
+    pub fn on_event(&self, event: TxEvent, now: u64) -> (OtherClient, TxOut)
         ensures after { result.0 ≡ machine_after other_client event now self.now.client }
         ensures out { result.1 ≡ out_of other_client event now self.now.client }
     {
@@ -177,11 +177,11 @@ impl<A: Allocator> Branch<A> {
     }
 
     /// The client transaction of the branch after an event, and what it sends and passes.
-    pub fn fed(&self, event: TxEvent, now: u64) -> (ClientTransaction, TxOut)
+    pub fn on_event(&self, event: TxEvent, now: u64) -> (ClientTransaction, TxOut)
         ensures after { result.0 ≡ client_after event now self.now.client }
         ensures out { result.1 ≡ client_out event now self.now.client }
     {
-        self.client.fed(event, now)
+        self.client.on_event(event, now)
     }
 
     /// The moment at which the client transaction of the branch wants a tick.

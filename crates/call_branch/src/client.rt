@@ -44,7 +44,7 @@ impl ClientTransaction {
     }
 
     /// The transaction after an event, and what it sends and passes.
-    pub(crate) fn fed(&self, event: TxEvent, now: u64) -> (ClientTransaction, TxOut)
+    pub(crate) fn on_event(&self, event: TxEvent, now: u64) -> (ClientTransaction, TxOut)
         ensures after { result.0 ≡ client_after event now self.now }
         ensures out { result.1 ≡ client_out event now self.now }
     {

@@ -20,8 +20,5 @@ pub use branches::{branch_in, destination_at, no_branches, put_branch};
 pub use client::ClientTransaction;
 pub use destination::Destination;
 pub use opened::{OpenedRequest, Opening};
-pub use responses::{
-    answer_event, is_fault, is_passed, is_redirection, is_request, is_response, is_timeout,
-    kept_if, parted, response_event, status_of,
-};
+pub use responses::{answer_event, is_fault, is_passed, is_redirection, is_request, is_response, is_timeout, keep_if_best, response_event, response_status, split_response};
 pub use served::ServerTransaction;

@@ -14,7 +14,7 @@ use sip_txn::{TxEvent, TxPass, TxSend};
 use std::alloc::Allocator;
 
 /// The status of a response (RFC 3261 section 7.2); 0 of a request.
-pub fn status_of<A: Allocator>(message: &Message<A>) -> u16
+pub fn response_status<A: Allocator>(message: &Message<A>) -> u16
     ensures { result ≡ status_of message.now }
 {
     match message.status() {
@@ -118,7 +118,7 @@ pub fn is_fault(pass: TxPass) -> bool
 
 /// A response on one of two sides: first what may go up at once, a provisional response or a 2xx; second what is kept,
 /// a failure.
-pub fn parted<A: Allocator>(
+pub fn split_response<A: Allocator>(
     status: u16,
     message: Message<A>,
 ) -> (Option<Message<A>>, Option<Message<A>>)
@@ -135,7 +135,7 @@ pub fn parted<A: Allocator>(
 }
 
 /// What is kept of a failure: one that a stored answer ranks before never goes up.
-pub fn kept_if<A: Allocator>(first: bool, failure: Option<Message<A>>) -> Option<Message<A>>
+pub fn keep_if_best<A: Allocator>(first: bool, failure: Option<Message<A>>) -> Option<Message<A>>
     ensures { result ≡ kept_if first failure }
 {
     if first { failure } else { None }

@@ -46,7 +46,7 @@ impl ServerTransaction {
     }
 
     /// The transaction after an event, and what it sends and passes.
-    pub fn fed(&self, event: TxEvent, now: u64) -> (ServerTransaction, TxOut)
+    pub fn on_event(&self, event: TxEvent, now: u64) -> (ServerTransaction, TxOut)
         ensures after { result.0 ≡ served_after event now self.now }
         ensures out { result.1 ≡ served_out event now self.now }
     {

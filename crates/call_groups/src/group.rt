@@ -15,12 +15,12 @@ pub const MOST_WAITING: usize = 1_024;
 /// Who receives a job enters the group, or hands the job over where another worker is on the group. Who has entered does its job, and
 /// then each [`next`](Group::next) until there is none.
 #[derive(Drop)]
-pub struct Group<T, A: Allocator = Global> {
+pub struct CallGroup<T, A: Allocator = Global> {
     is_busy: bool,
     waiting: VecDeque<T, A>,
 }
 
-impl<T, A: Allocator> Model for Group<T, A> {
+impl<T, A: Allocator> Model for CallGroup<T, A> {
     ghost use Rattle.call_groups.specs.Groups.{GroupState, IsAttended};
 
     ghost Value = { GroupState T };
@@ -30,12 +30,12 @@ impl<T, A: Allocator> Model for Group<T, A> {
     ghost invariant = { λ g. IsAttended g.is_busy g.waiting.items };
 }
 
-impl<T, A: Allocator> Group<T, A> {
+impl<T, A: Allocator> CallGroup<T, A> {
     /// A group that no worker is on.
-    pub fn new(alloc: A) -> Group<T, A>
+    pub fn new(alloc: A) -> CallGroup<T, A>
         ensures { result ≡ record { busy = false; waiting = [] } }
     {
-        Group {
+        CallGroup {
             is_busy: false,
             waiting: VecDeque::new(alloc),
         }

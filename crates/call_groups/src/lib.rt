@@ -6,6 +6,6 @@ mod group;
 mod law;
 mod room;
 
-pub use group::{Group, MOST_WAITING};
+pub use group::{CallGroup, MOST_WAITING};
 pub use law::jobs_come_in_order;
-pub use room::Room;
+pub use room::WaitingRoom;

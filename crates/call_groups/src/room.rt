@@ -3,19 +3,19 @@ ghost use Rattle.std.specs.Prelude.{◌≡◌, ◌+◌, ◌-◌, ◌≤◌, min,
 
 /// A number of bytes that may be taken at once, and how many of them are left. Who takes bytes gives as many back.
 #[derive(Clone, Copy, PartialEq, Eq, Debug)]
-pub struct Room {
+pub struct WaitingRoom {
     most: u64,
     left: u64,
     ghost within: { left ≤ most },
 }
 
-impl Room {
+impl WaitingRoom {
     /// So many bytes, all of them left.
-    pub fn new(most: u64) -> Room
+    pub fn new(most: u64) -> WaitingRoom
         ensures most { result.most ≡ most }
         ensures left { result.left ≡ most }
     {
-        Room { most, left: most }
+        WaitingRoom { most, left: most }
     }
 
     /// Takes so many bytes where as many are left, and says whether they were. Where they were not, nothing changes.

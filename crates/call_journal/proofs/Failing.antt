@@ -8,7 +8,7 @@ use Rattle.fork_model.specs.Choice.{Choice, IsChoice, status_sent}
 use Rattle.fork_context.specs.Led.{IsLedTo}
 use Rattle.fork_listing.specs.Accepted.{ListingsAreRight}
 use Rattle.fork_listing.specs.Listed.{Appends}
-use Rattle.call_journal.specs.declared.head.Head.{Head}
+use Rattle.call_journal.specs.declared.head.CallRecord.{CallRecord}
 use Rattle.fork_model.specs.Steps.{EachTargetHasARow, TargetsAreBounded}
 use Rattle.call_journal.specs.declared.notes.Note.{Note}
 use Rattle.call_journal.specs.Block.{Ends, IsBlock, IsFailedBlock, lines_of}
@@ -63,7 +63,7 @@ failed_so t notes old x y w z l new choice status e f chosen sent p q u r o list
   };
 }
 
-pub listed_right : ListingsAreRight → TargetsAreBounded → EachTargetHasARow → (h : Head) (core : Core) (notes : List Note) (text : List ℕ) → IsLedTo core → table.is_finished core.table.rows ≡ true → table.is_succeeded core.table.rows ≡ false
+pub listed_right : ListingsAreRight → TargetsAreBounded → EachTargetHasARow → (h : CallRecord) (core : Core) (notes : List Note) (text : List ℕ) → IsLedTo core → table.is_finished core.table.rows ≡ true → table.is_succeeded core.table.rows ≡ false
     → IsBlock h core.table notes text → IsFailedBlock h notes text
 listed_right right bounded each h core notes text led finished not_succeeded block =
     let end = block.failed not_succeeded finished in

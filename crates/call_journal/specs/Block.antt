@@ -6,7 +6,7 @@ use Rattle.fork_model.specs.Choice.{Choice, IsChoice, status_sent}
 use Rattle.fork_listing.specs.declared.refusal.Verdict.{Verdict}
 use Rattle.fork_listing.specs.Accepted.{IsRightText}
 use Rattle.fork_listing.specs.Listed.{IsListingOf}
-use Rattle.call_journal.specs.declared.head.Head.{Head}
+use Rattle.call_journal.specs.declared.head.CallRecord.{CallRecord}
 use Rattle.call_journal.specs.Head.{head_text}
 use Rattle.call_journal.specs.Why.{why_text}
 use Rattle.call_journal.specs.declared.notes.Note.{Note}
@@ -31,14 +31,14 @@ pub record Ends (t : table.Table) (notes : List Note) (old new : List ℕ) : Typ
   pub unfinished : table.is_succeeded t.rows ≡ false → table.is_finished t.rows ≡ false → new ≡ old ++ (codes " open\n" ++ lines_of t notes)
   pub failed : table.is_succeeded t.rows ≡ false → table.is_finished t.rows ≡ true → Fails t notes old new
 
-abbrev pub IsBlock : Head → table.Table → List Note → List ℕ → Type 0
+abbrev pub IsBlock : CallRecord → table.Table → List Note → List ℕ → Type 0
 IsBlock h t notes text = Ends t notes (head_text h) text
 
-abbrev pub Journals : Head → table.Table → List Note → List ℕ → List ℕ → Type 0
+abbrev pub Journals : CallRecord → table.Table → List Note → List ℕ → List ℕ → Type 0
 Journals h t notes old new = (text : List ℕ) × IsBlock h t notes text × (new ≡ old ++ text)
 
 -- a listing that a check accepts stands behind the line, which ends behind the words that say why, and the lines of so many targets
-abbrev pub IsFailedBlock : Head → List Note → List ℕ → Type 0
+abbrev pub IsFailedBlock : CallRecord → List Note → List ℕ → Type 0
 IsFailedBlock h notes text =
     (status : ℕ)
     × (count : ℕ)

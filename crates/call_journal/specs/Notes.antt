@@ -3,11 +3,11 @@ use Rattle.std.specs.Prelude.{ℕ, ◌==◌, nat_lt, Bool, List, [], ◌∷◌, 
 use Rattle.std.specs.Fmt.{decimal}
 use Rattle.std.specs.List.{filter, flat_map, range_with_len}
 use Rattle.fork_model.specs.Event.{Event, Ring, Answer, Timeout, Fault, TimerC, GiveUp, Cancel}
-use Rattle.call_journal.specs.declared.notes.Happening.{Happening}
-use Rattle.call_journal.specs.declared.notes.Happening.TheVariants as happening
+use Rattle.call_journal.specs.declared.notes.NotedEvent.{NotedEvent}
+use Rattle.call_journal.specs.declared.notes.NotedEvent.TheVariants as happening
 use Rattle.call_journal.specs.declared.notes.Note.{Note}
 
-abbrev pub noted : ℕ → Happening → ℕ → Option Note
+abbrev pub noted : ℕ → NotedEvent → ℕ → Option Note
 noted n what at = Some (record { target = n; what = what; at = at })
 
 -- of an event at this moment; the caller's CANCEL is of no target
@@ -21,7 +21,7 @@ note_of at (GiveUp n) = noted n happening.GivenUp at
 note_of at Cancel = None
 
 -- a 2xx is an answer; of any other final response the status alone is said
-abbrev pub words : Happening → List ℕ
+abbrev pub words : NotedEvent → List ℕ
 words (happening.Rang status) = codes "rang " ++ decimal status
 words (happening.Answered status) = if nat_lt status 300 then codes "answered " ++ decimal status else decimal status
 words happening.TimedOut = codes "timed out"

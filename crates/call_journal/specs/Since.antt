@@ -2,14 +2,14 @@
 use Rattle.std.specs.Prelude.{ℕ, ◌&&◌, Bool, true, false, List, [], ◌∷◌, Option, Some, None, if◌then◌else◌}
 use Rattle.fork_tree.specs.declared.row.State.{State}
 use Rattle.fork_tree.specs.declared.row.State.TheVariants as state
-use Rattle.call_journal.specs.declared.notes.Happening.{Happening}
-use Rattle.call_journal.specs.declared.notes.Happening.TheVariants as happening
+use Rattle.call_journal.specs.declared.notes.NotedEvent.{NotedEvent}
+use Rattle.call_journal.specs.declared.notes.NotedEvent.TheVariants as happening
 use Rattle.call_journal.specs.declared.notes.Note.{Note}
 use Rattle.call_journal.specs.declared.standing.Stage.{Stage}
 use Rattle.call_journal.specs.declared.standing.Stage.TheVariants as stage
 use Rattle.call_journal.specs.Notes.{is_of}
 
-abbrev pub is_at : Stage → Happening → Bool
+abbrev pub is_at : Stage → NotedEvent → Bool
 is_at stage.Rang (happening.Rang status) = true
 is_at stage.Cancelled happening.Cancelled = true
 is_at stage.TimedOut happening.TimedOut = true

@@ -2,7 +2,7 @@
 ghost use Rattle.std.specs.Prelude.{◌≡◌, ◌++◌, IfOk, OnErr, OnOk};
 ghost use Rattle.call_journal.specs.Block.{Ends, IsBlock, Journals};
 
-use crate::head::{Head, append_head};
+use crate::head::{CallRecord, append_head};
 use crate::notes::{Note, append_targets};
 use crate::why::append_why;
 use fork_context::Context;
@@ -44,7 +44,7 @@ fn append_end<A: Allocator + Clone>(
 /// The block of a call.
 fn block_of<A: Allocator + Clone>(
     alloc: A,
-    head: &Head<'_>,
+    head: &CallRecord<'_>,
     context: &Context<A>,
     notes: &[Note],
 ) -> Result<Vec<u8, A>, AllocError>
@@ -66,7 +66,7 @@ fn block_of<A: Allocator + Clone>(
 /// Only where the allocator refuses; `out` is then as it was.
 pub fn append_call<A: Allocator + Clone>(
     out: &mut Vec<u8, A>,
-    head: &Head<'_>,
+    head: &CallRecord<'_>,
     context: &Context<A>,
     notes: &[Note],
 ) -> Result<(), AllocError>

@@ -11,7 +11,7 @@ const MOST_BYTES: usize = 256;
 
 /// Which call it was, and when it ended.
 #[derive(Clone, Copy)]
-pub struct Head<'a> {
+pub struct CallRecord<'a> {
     /// Seconds since 1970.
     pub time: u64,
     pub number: u64,
@@ -64,7 +64,7 @@ pub(crate) fn append_shown<A: Allocator>(
 }
 
 /// Appends when it ended, and its number.
-fn append_front<A: Allocator>(out: &mut Vec<u8, A>, head: &Head<'_>) -> Result<(), AllocError>
+fn append_front<A: Allocator>(out: &mut Vec<u8, A>, head: &CallRecord<'_>) -> Result<(), AllocError>
     ensures { OnOk result (out.new.items ≡ out.old.items ++ front_text head.now) }
 {
     append(out, b"call ")?;
@@ -75,7 +75,7 @@ fn append_front<A: Allocator>(out: &mut Vec<u8, A>, head: &Head<'_>) -> Result<(
 }
 
 /// Appends what it asked for.
-fn append_asked<A: Allocator>(out: &mut Vec<u8, A>, head: &Head<'_>) -> Result<(), AllocError>
+fn append_asked<A: Allocator>(out: &mut Vec<u8, A>, head: &CallRecord<'_>) -> Result<(), AllocError>
     ensures { OnOk result (out.new.items ≡ out.old.items ++ asked_text head.now) }
 {
     append_shown(out, head.method)?;
@@ -84,7 +84,7 @@ fn append_asked<A: Allocator>(out: &mut Vec<u8, A>, head: &Head<'_>) -> Result<(
 }
 
 /// Appends who called, and the Call-ID.
-fn append_caller<A: Allocator>(out: &mut Vec<u8, A>, head: &Head<'_>) -> Result<(), AllocError>
+fn append_caller<A: Allocator>(out: &mut Vec<u8, A>, head: &CallRecord<'_>) -> Result<(), AllocError>
     ensures { OnOk result (out.new.items ≡ out.old.items ++ caller_text head.now) }
 {
     append(out, b" from ")?;
@@ -96,7 +96,7 @@ fn append_caller<A: Allocator>(out: &mut Vec<u8, A>, head: &Head<'_>) -> Result<
 /// Appends the line that says which call it was, without its end.
 pub(crate) fn append_head<A: Allocator>(
     out: &mut Vec<u8, A>,
-    head: &Head<'_>,
+    head: &CallRecord<'_>,
 ) -> Result<(), AllocError>
     ensures { OnOk result (out.new.items ≡ out.old.items ++ head_text head.now) }
 {

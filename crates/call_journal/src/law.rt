@@ -6,7 +6,7 @@ ghost use Rattle.fork_model.specs.Choice.{IsFirst};
 ghost use Rattle.fork_model.specs.Rank.{Score};
 ghost use Rattle.fork_model.specs.Table.{Row, Rules, is_finished, is_succeeded};
 ghost use Rattle.fork_context.specs.Led.{IsLedTo};
-ghost use Rattle.call_journal.specs.declared.head.Head.{Head};
+ghost use Rattle.call_journal.specs.declared.head.CallRecord.{CallRecord};
 ghost use Rattle.call_journal.specs.declared.notes.Note.{Note};
 ghost use Rattle.call_journal.specs.Block.{IsBlock, IsFailedBlock};
 ghost use Rattle.call_journal.specs.Head.{head_text};
@@ -17,13 +17,13 @@ use fork_model::targets_are_bounded;
 
 /// No text of a caller's ends a line or makes a word of its own.
 pub fn heads_are_lines()
-    ensures { (h : Head) → h.time < 2 ^ 64 → h.number < 2 ^ 64 → Lacks 10 (head_text h) }
+    ensures { (h : CallRecord) → h.time < 2 ^ 64 → h.number < 2 ^ 64 → Lacks 10 (head_text h) }
 {}
 
 /// A call that failed is listed so that a check accepts it, behind a line that ends with the words that say why, and the lines of what its
 /// targets did.
 pub fn failed_calls_are_listed_right()
-    ensures { (h : Head) (core : Core) (notes : List Note) (text : List ℕ) → IsLedTo core → is_finished core.table.rows ≡ true → is_succeeded core.table.rows ≡ false
+    ensures { (h : CallRecord) (core : Core) (notes : List Note) (text : List ℕ) → IsLedTo core → is_finished core.table.rows ≡ true → is_succeeded core.table.rows ≡ false
         → IsBlock h core.table notes text → IsFailedBlock h notes text }
 {
     listings_of_forks_are_right();

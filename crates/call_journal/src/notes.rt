@@ -11,7 +11,7 @@ use std::alloc::{AllocError, Allocator};
 
 /// What is noted of a target.
 #[derive(Clone, Copy, PartialEq, Eq, Debug)]
-pub enum Happening {
+pub enum NotedEvent {
     /// A provisional response of this status came.
     Rang(u16),
     /// A final response of this status came.
@@ -31,7 +31,7 @@ pub enum Happening {
 pub struct Note {
     /// The number of the target.
     pub target: u16,
-    pub what: Happening,
+    pub what: NotedEvent,
     /// How many milliseconds the call was open then.
     pub at: u64,
 }
@@ -42,11 +42,11 @@ impl Note {
         ensures { result ≡ note_of at (event_of event.now) }
     {
         let (target, what) = match event {
-            Event::Ring(n, status) => (*n, Happening::Rang(status.code())),
-            Event::Answer(n, answer) => (*n, Happening::Answered(answer.status().code())),
-            Event::Timeout(n) | Event::TimerC(n) => (*n, Happening::TimedOut),
-            Event::Fault(n) => (*n, Happening::TransportError),
-            Event::GiveUp(n) => (*n, Happening::GivenUp),
+            Event::Ring(n, status) => (*n, NotedEvent::Rang(status.code())),
+            Event::Answer(n, answer) => (*n, NotedEvent::Answered(answer.status().code())),
+            Event::Timeout(n) | Event::TimerC(n) => (*n, NotedEvent::TimedOut),
+            Event::Fault(n) => (*n, NotedEvent::TransportError),
+            Event::GiveUp(n) => (*n, NotedEvent::GivenUp),
             Event::Cancel => return None,
         };
         Some(Note { target, what, at })
@@ -64,19 +64,19 @@ fn append_answered<A: Allocator>(out: &mut Vec<u8, A>, status: u16) -> Result<()
 }
 
 /// Appends what happened, in words.
-fn append_words<A: Allocator>(out: &mut Vec<u8, A>, what: Happening) -> Result<(), AllocError>
+fn append_words<A: Allocator>(out: &mut Vec<u8, A>, what: NotedEvent) -> Result<(), AllocError>
     ensures { OnOk result (out.new.items ≡ out.old.items ++ words what) }
 {
     match what {
-        Happening::Rang(status) => {
+        NotedEvent::Rang(status) => {
             append(out, b"rang ")?;
             append_decimal(out, u64::from(status))
         }
-        Happening::Answered(status) => append_answered(out, status),
-        Happening::TimedOut => append(out, b"timed out"),
-        Happening::TransportError => append(out, b"transport error"),
-        Happening::GivenUp => append(out, b"given up"),
-        Happening::Cancelled => append(out, b"cancelled"),
+        NotedEvent::Answered(status) => append_answered(out, status),
+        NotedEvent::TimedOut => append(out, b"timed out"),
+        NotedEvent::TransportError => append(out, b"transport error"),
+        NotedEvent::GivenUp => append(out, b"given up"),
+        NotedEvent::Cancelled => append(out, b"cancelled"),
     }
 }
 

@@ -2,7 +2,7 @@
 ghost use Rattle.std.specs.Prelude.{◌≡◌};
 ghost use Rattle.call_journal.specs.Since.{first_at, is_at, since_of};
 
-use crate::notes::{Happening, Note};
+use crate::notes::{Note, NotedEvent};
 use fork_context::State;
 
 /// What brings a branch to where it stands.
@@ -17,14 +17,14 @@ pub(crate) enum Stage {
 }
 
 /// Whether this brings a branch to such a stage.
-fn is_at(stage: Stage, what: Happening) -> bool
+fn is_at(stage: Stage, what: NotedEvent) -> bool
     ensures { result ≡ is_at stage what }
 {
     match what {
-        Happening::Rang(_) => matches!(stage, Stage::Rang),
-        Happening::Cancelled => matches!(stage, Stage::Cancelled),
-        Happening::TimedOut => matches!(stage, Stage::TimedOut),
-        Happening::Answered(_) | Happening::TransportError | Happening::GivenUp => {
+        NotedEvent::Rang(_) => matches!(stage, Stage::Rang),
+        NotedEvent::Cancelled => matches!(stage, Stage::Cancelled),
+        NotedEvent::TimedOut => matches!(stage, Stage::TimedOut),
+        NotedEvent::Answered(_) | NotedEvent::TransportError | NotedEvent::GivenUp => {
             matches!(stage, Stage::Ended)
         }
     }

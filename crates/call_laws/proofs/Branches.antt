@@ -13,9 +13,9 @@ use Rattle.sip_txn.specs.declared.event.TxEvent.{TxEvent}
 use Rattle.sip_txn.specs.declared.event.TxEvent.TheVariants as event
 use Rattle.sip_txn.specs.declared.event.TxSend.{TxSend}
 use Rattle.sip_txn.specs.declared.event.TxSend.TheVariants as send
-use Rattle.sip_txn.specs.declared.timers.Input.{Input as TimerInput}
+use Rattle.sip_txn.specs.declared.timers.MachineInput.{MachineInput as TimerInput}
 use Rattle.sip_txn.specs.declared.timers.Reliability.{Reliability}
-use Rattle.sip_txn.specs.declared.timers.Input.TheVariants as input
+use Rattle.sip_txn.specs.declared.timers.MachineInput.TheVariants as input
 use Rattle.sip_txn.specs.declared.invite_client.InviteClientState.{InviteClientState}
 use Rattle.sip_txn.specs.declared.invite_client.InviteClientState.TheVariants as invite
 use Rattle.sip_txn.specs.declared.other_client.OtherClientState.{OtherClientState}

@@ -12,7 +12,7 @@ use Rattle.sip_txn.specs.declared.invite_server.InviteServerState.{InviteServerS
 use Rattle.sip_txn.specs.declared.invite_server.InviteServerState.TheVariants as invite
 use Rattle.sip_txn.specs.declared.other_server.OtherServerState.{OtherServerState}
 use Rattle.sip_txn.specs.declared.other_server.OtherServerState.TheVariants as other
-use Rattle.sip_txn.specs.declared.timers.Input.TheVariants as input
+use Rattle.sip_txn.specs.declared.timers.MachineInput.TheVariants as input
 use Rattle.sip_txn.specs.Machine.{row_out}
 use Rattle.sip_txn.specs.Timers.{is_due, moment_of}
 use Rattle.sip_txn.specs.InviteServer.{invite_server}

@@ -9,9 +9,9 @@ use Rattle.sip_txn.specs.declared.invite_server.InviteServerState.TheVariants as
 use Rattle.sip_txn.specs.declared.other_server.OtherServerState.{OtherServerState}
 use Rattle.sip_txn.specs.declared.other_server.OtherServerState.TheVariants as other
 use Rattle.sip_txn.specs.declared.machine.Machine.{Machine}
-use Rattle.sip_txn.specs.declared.machine.Row.{Row}
-use Rattle.sip_txn.specs.declared.timers.Input.{Input}
-use Rattle.sip_txn.specs.declared.timers.Input.TheVariants as input
+use Rattle.sip_txn.specs.declared.machine.MachineRow.{MachineRow}
+use Rattle.sip_txn.specs.declared.timers.MachineInput.{MachineInput}
+use Rattle.sip_txn.specs.declared.timers.MachineInput.TheVariants as input
 use Rattle.sip_txn.specs.Machine.{machine_after, row_machine, row_out}
 use Rattle.sip_txn.specs.Timers.{input_of, is_due, moment_of}
 use Rattle.sip_txn.specs.InviteServer.{invite_server}
@@ -23,20 +23,20 @@ use Rattle.call_laws.specs.Finals.{Awaits, CouldNotSend, has_failed, invite_fail
 
 -- ---- the state that a row leads to
 
-abbrev pub after : {S : Type 0} → Option (Row S) → S → S
+abbrev pub after : {S : Type 0} → Option (MachineRow S) → S → S
 after None s = s
 after (Some r) s = r.next
 
-pub state_after : {S : Type 0} (row : Option (Row S)) (now : ℕ) (m : Machine S) → (row_machine row now m).state ≡ after row m.state
+pub state_after : {S : Type 0} (row : Option (MachineRow S)) (now : ℕ) (m : Machine S) → (row_machine row now m).state ≡ after row m.state
 state_after None now m = refl
 state_after (Some r) now m = refl
 
-abbrev pub by_tick : (end repeat : Bool) → Input
+abbrev pub by_tick : (end repeat : Bool) → MachineInput
 by_tick end repeat = if end then input.EndDue else (if repeat then input.RepeatDue else input.NothingDue)
 
 -- ---- the transaction of an INVITE
 
-invite_goes_on : (i : Input) → invite_waits (after (invite_server invite.Proceeding i) invite.Proceeding) ≡ true
+invite_goes_on : (i : MachineInput) → invite_waits (after (invite_server invite.Proceeding i) invite.Proceeding) ≡ true
     → (s : InviteServerState) → invite_waits s ≡ true → invite_waits (after (invite_server s i) s) ≡ true
 invite_goes_on i h invite.Proceeding e = h
 invite_goes_on i h invite.Completed e = absurd cc
@@ -44,7 +44,7 @@ invite_goes_on i h invite.Confirmed e = absurd cc
 invite_goes_on i h invite.Accepted e = absurd cc
 invite_goes_on i h invite.Terminated e = absurd cc
 
-invite_has_gone_on : (i : Input) → invite_waits (after (invite_server invite.Completed i) invite.Completed) ≡ false
+invite_has_gone_on : (i : MachineInput) → invite_waits (after (invite_server invite.Completed i) invite.Completed) ≡ false
     → invite_waits (after (invite_server invite.Confirmed i) invite.Confirmed) ≡ false
     → invite_waits (after (invite_server invite.Accepted i) invite.Accepted) ≡ false
     → invite_waits (after (invite_server invite.Terminated i) invite.Terminated) ≡ false
@@ -74,7 +74,7 @@ invite_fails invite.Terminated = refl
 
 -- ---- that of another request
 
-other_goes_on : (i : Input) → other_waits (after (other_server other.Trying i) other.Trying) ≡ true
+other_goes_on : (i : MachineInput) → other_waits (after (other_server other.Trying i) other.Trying) ≡ true
     → other_waits (after (other_server other.Proceeding i) other.Proceeding) ≡ true
     → (s : OtherServerState) → other_waits s ≡ true → other_waits (after (other_server s i) s) ≡ true
 other_goes_on i a b other.Trying e = a
@@ -82,7 +82,7 @@ other_goes_on i a b other.Proceeding e = b
 other_goes_on i a b other.Completed e = absurd cc
 other_goes_on i a b other.Terminated e = absurd cc
 
-other_has_gone_on : (i : Input) → other_waits (after (other_server other.Completed i) other.Completed) ≡ false
+other_has_gone_on : (i : MachineInput) → other_waits (after (other_server other.Completed i) other.Completed) ≡ false
     → other_waits (after (other_server other.Terminated i) other.Terminated) ≡ false
     → (s : OtherServerState) → other_waits s ≡ false → other_waits (after (other_server s i) s) ≡ false
 other_has_gone_on i a b other.Trying e = absurd cc
@@ -107,7 +107,7 @@ other_fails other.Completed = refl
 other_fails other.Terminated = refl
 
 -- one that has ended stays so
-other_ended : (i : Input) → after (other_server other.Terminated i) other.Terminated ≡ other.Terminated
+other_ended : (i : MachineInput) → after (other_server other.Terminated i) other.Terminated ≡ other.Terminated
     → (m : Machine OtherServerState) (now : ℕ) → m.state ≡ other.Terminated → (row_machine (other_server m.state i) now m).state ≡ other.Terminated
 other_ended i stays m now is =
     state_after (other_server m.state i) now m ∙ ap (λ (s : OtherServerState). after (other_server s i) s) is ∙ stays
@@ -352,7 +352,7 @@ dropped_takes status now machine drops = false_from_ne_true (takes machine statu
 
 -- ---- no failure was handed to that of an INVITE
 
-invite_unfailed : (i : Input) → invite_failed (after (invite_server invite.Proceeding i) invite.Proceeding) ≡ false
+invite_unfailed : (i : MachineInput) → invite_failed (after (invite_server invite.Proceeding i) invite.Proceeding) ≡ false
     → invite_failed (after (invite_server invite.Accepted i) invite.Accepted) ≡ false
     → invite_failed (after (invite_server invite.Terminated i) invite.Terminated) ≡ false
     → (s : InviteServerState) → invite_failed s ≡ false → invite_failed (after (invite_server s i) s) ≡ false

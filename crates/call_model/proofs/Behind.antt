@@ -13,7 +13,7 @@ use Rattle.fork_model.specs.Steps.{BranchesGoOn}
 use Rattle.fork_model.specs.Table as table
 use Rattle.fork_model.specs.Log.{Posted}
 use Rattle.sip_txn.specs.declared.event.TxEvent.TheVariants as event
-use Rattle.sip_txn.specs.declared.timers.Input.TheVariants as input
+use Rattle.sip_txn.specs.declared.timers.MachineInput.TheVariants as input
 use Rattle.sip_txn.specs.declared.invite_client.InviteClientState.TheVariants as invite
 use Rattle.sip_txn.specs.declared.other_client.OtherClientState.TheVariants as other
 use Rattle.call_model.specs.declared.cause.Cause.TheVariants as cause

@@ -8,7 +8,7 @@ use Rattle.sip_txn.specs.declared.invite_server.InviteServerState.TheVariants as
 use Rattle.sip_txn.specs.declared.other_client.OtherClientState.TheVariants as other_client_at
 use Rattle.sip_txn.specs.declared.other_server.OtherServerState.TheVariants as other_server_at
 use Rattle.sip_txn.specs.declared.machine.Machine.{Machine}
-use Rattle.sip_txn.specs.declared.machine.Row.{Row}
+use Rattle.sip_txn.specs.declared.machine.MachineRow.{MachineRow}
 use Rattle.sip_txn.specs.declared.timers.Timers.{Timers}
 use Rattle.sip_txn.specs.declared.other_client.OtherClientState.{OtherClientState}
 use Rattle.sip_txn.specs.InviteClient.{invite_client}
@@ -28,13 +28,13 @@ stays : {S : Type 0} (table : Table S) (over : S) (ev : TxEvent) (now : ℕ) (m 
     → machine_after table ev now m ≡ m
 stays {S} table over ev now m is none =
     ap (λ (s : S). row_machine (table s (input_of ev now m.timers)) now m) is
-    ∙ ap (λ (r : Option (Row S)). row_machine r now m) none
+    ∙ ap (λ (r : Option (MachineRow S)). row_machine r now m) none
 
 silently : {S : Type 0} (table : Table S) (over : S) (ev : TxEvent) (now : ℕ) (m : Machine S) → m.state ≡ over → table over (input_of ev now m.timers) ≡ None
     → out_of table ev now m ≡ silent
 silently {S} table over ev now m is none =
     ap (λ (s : S). row_out (table s (input_of ev now m.timers))) is
-    ∙ ap (λ (r : Option (Row S)). row_out r) none
+    ∙ ap (λ (r : Option (MachineRow S)). row_out r) none
 
 -- ---- the caller's
 

@@ -18,7 +18,7 @@ use sip_via::{BranchName, own_branch, top_and_second};
 use std::alloc::Allocator;
 
 /// Shows that the numbers of a branch are bounded.
-fn is_branch(name: BranchName)
+fn fact_branch(name: BranchName)
     ensures { IsBranch name }
 {}
 
@@ -104,7 +104,7 @@ fn is_for_cancel<A: Allocator + Clone>(state: &CallState<A>, message: &Message<A
 fn are_branches(call: BranchName)
     ensures { (n : ℕ) → n < 2 ^ 16 → IsBranch (record call { target = n }) }
 {
-    is_branch(call);
+    fact_branch(call);
 }
 
 /// The transaction of a call that a response is for, whose top Via value is that of this branch of the proxy's own: the proxy put

@@ -20,7 +20,7 @@ ghost use Rattle.sip_uri.specs.Fault.{Gives, refusal};
 ghost use Rattle.proxy_routing.specs.Targets.{has_hop, targets_of};
 
 use crate::opening_request::OpeningRequest;
-use call_answers::place_of;
+use call_answers::row_place;
 use call_branch::{Destination, OpenedRequest, Opening};
 use call_model::TriedContacts;
 use call_state::CallState;
@@ -28,10 +28,7 @@ use fork_book::Book;
 use fork_context::{Kind, NewFault};
 use fork_rank::Rules;
 use proxy_config::{Setup, locations_are_targets};
-use proxy_routing::{
-    CandidateTarget, RequestRejection, Unrouted, asks_extension, candidates, have_hops, hop_if_any,
-    is_domain, targets_of, validate_request,
-};
+use proxy_routing::{CandidateTarget, RequestRejection, Unrouted, asks_extension, candidates, have_hops, hop_if_any, is_responsible_for, targets_of, validate_request};
 use sip_build::{opens_dialog, write_own_route};
 use sip_route::{first_route, request_uri};
 use sip_text::Message;
@@ -117,7 +114,7 @@ fn destinations_of<A: Allocator + Clone>(
     let count = book.context().count();
     let mut destinations = Vec::with_capacity(alloc.clone()?, count as usize)?;
     for n in 0..book.context().count() {
-        let place = place_of(book, n);
+        let place = row_place(book, n);
         destinations.push(destination_at(alloc.clone()?, candidates, place)?)?;
     }
     Ok(destinations)
@@ -234,7 +231,7 @@ fn open_to<A: Allocator + Clone>(
         now,
     } = opening;
     let route = first_route(&request);
-    let inside = is_domain(setup, uri);
+    let inside = is_responsible_for(setup, uri);
     let candidates = candidates(alloc.clone()?, setup, inside, route, uri)?;
     if candidates.is_empty() {
         return Err(Unrouted::Rejected(RequestRejection::NoTarget, request));

@@ -22,10 +22,10 @@ ghost use Rattle.call_model.specs.Sound.{IsSound};
 use crate::state::CallState;
 use crate::states::shows_received;
 use call_answers::PendingResponse;
-use call_branch::{OpenedRequest, status_of};
+use call_branch::{OpenedRequest, response_status};
 use call_model::{Cause, Datagram, Step};
 use fork_context::{Challenge, Choice, Offer};
-use sip_build::{OwnStatus, first_timestamp, write_generated, write_upward};
+use sip_build::{OwnStatus, first_timestamp, write_forwarded_response, write_own_response};
 use sip_text::{HeaderLine, Message};
 use sip_uri::Hop;
 use sip_via::BuildFault;
@@ -49,7 +49,7 @@ fn own_answer<A: Allocator>(
     ensures { IfOk result (IsText (generated opened.now status)) }
 {
     let mut text = Vec::new(alloc);
-    write_generated(opened.request(), status, &[], &mut text)?;
+    write_own_response(opened.request(), status, &[], &mut text)?;
     Ok(BuiltResponse::Answer(status.code(), text))
 }
 
@@ -75,8 +75,8 @@ fn trying_answer<A: Allocator>(
     let mut text = Vec::new(alloc);
     let request = opened.request();
     match stamp_of(opened) {
-        Some(stamp) => write_generated(request, OwnStatus::Trying, &[stamp], &mut text)?,
-        None => write_generated(request, OwnStatus::Trying, &[], &mut text)?,
+        Some(stamp) => write_own_response(request, OwnStatus::Trying, &[stamp], &mut text)?,
+        None => write_own_response(request, OwnStatus::Trying, &[], &mut text)?,
     }
     Ok(BuiltResponse::Answer(OwnStatus::Trying.code(), text))
 }
@@ -94,8 +94,8 @@ fn upward_answer<'a, A: Allocator>(
     ensures { IfOk result (IsText (upward_of response.now (seen_kept kept.entry) challenges.now)) }
 {
     let mut text = Vec::new(alloc);
-    match write_upward(response, kept, challenges, &mut text) {
-        Ok(()) => Ok(BuiltResponse::Answer(status_of(response), text)),
+    match write_forwarded_response(response, kept, challenges, &mut text) {
+        Ok(()) => Ok(BuiltResponse::Answer(response_status(response), text)),
         Err(BuildFault::NoMemory) => Err(AllocError),
         Err(BuildFault::LastVia) => unreachable!(),
     }
@@ -122,7 +122,7 @@ fn cancel_ok<A: Allocator>(
     ensures { IfOk result (IsPaidOk cancel.now to) }
 {
     let mut bytes = Vec::new(alloc);
-    write_generated(cancel, OwnStatus::Okay, &[], &mut bytes)?;
+    write_own_response(cancel, OwnStatus::Okay, &[], &mut bytes)?;
     Ok(BuiltResponse::Sent(Datagram {
         to,
         bytes,
@@ -214,7 +214,7 @@ impl<A: Allocator + Clone> CallState<A> {
     /// # Errors
     ///
     /// Only where the allocator refuses; then the state is as it was.
-    pub fn send_owed(&mut self, now: u64) -> Result<Step<A>, AllocError>
+    pub fn send_next_response(&mut self, now: u64) -> Result<Step<A>, AllocError>
         requires some { 0 < length self.old.server.owed }
         requires sound { IsSound self.old }
         requires answers { KeepsAnswers self.old }

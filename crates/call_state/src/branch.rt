@@ -8,7 +8,7 @@ ghost use Rattle.call_model.specs.Take.{RespondsOn};
 
 use crate::fault::PostFault;
 use crate::state::CallState;
-use call_branch::{is_passed, kept_if, parted, response_event};
+use call_branch::{is_passed, keep_if_best, response_event, split_response};
 use call_model::Taken;
 use sip_text::Message;
 use std::alloc::Allocator;
@@ -42,24 +42,24 @@ impl<A: Allocator + Clone> CallState<A> {
     {
         let destination = self.destination(n);
         let branch = self.part(n);
-        let (client, out) = branch.fed(response_event(status), now);
+        let (client, out) = branch.on_event(response_event(status), now);
         let timer_c_at = branch.timer_c_again(status, destination.longest(), now);
         let ack = self.ack_if(destination, n, out.send, &message)?;
         if !is_passed(out.pass) {
-            self.respond_part(n, client, ack);
+            self.respond_branch(n, client, ack);
             return Ok(Taken::Absorbed);
         }
         let new_event = self.new_event(n, status, &message)?;
-        let (up, failure) = parted(status, message);
+        let (up, failure) = split_response(status, message);
         // The event is posted before anything is set, as that alone may be refused; and `is_first` is asked of the table that has
         // the answer.
         let at = match self.post_response(new_event, up) {
             Ok(at) => at,
             Err(fault) => return Err(fault),
         };
-        self.respond_part(n, client, ack);
+        self.respond_branch(n, client, ack);
         let first = self.book().context().is_first(n);
-        self.keep_part(n, timer_c_at, kept_if(first, failure));
+        self.keep_branch(n, timer_c_at, keep_if_best(first, failure));
         self.note_closing(status);
         Ok(Taken::Posted(at))
     }

@@ -21,12 +21,12 @@ impl<A: Allocator + Clone> CallState<A> {
         let Some(branch) = self.branch(n) else {
             return Ok(());
         };
-        let (client, out) = branch.fed(TxEvent::TransportError, now);
+        let (client, out) = branch.on_event(TxEvent::TransportError, now);
         if !is_fault(out.pass) {
-            self.respond_part(n, client, None);
+            self.respond_branch(n, client, None);
             return Ok(());
         }
-        self.end_part(n, client, Event::Fault(n))
+        self.end_branch(n, client, Event::Fault(n))
     }
 
     /// Tells the transaction of branch n's CANCEL that the CANCEL could not be sent.
@@ -39,8 +39,8 @@ impl<A: Allocator + Clone> CallState<A> {
         let Some(cancelling) = branch.cancelling() else {
             return;
         };
-        let (client, _out) = cancelling.fed(TxEvent::TransportError, now);
-        self.cancel_on_part(n, client);
+        let (client, _out) = cancelling.on_event(TxEvent::TransportError, now);
+        self.cancel_on_branch(n, client);
     }
 
     /// Tells of a datagram that could not be sent: the transaction of its cause hears of that, and the branch of a request

@@ -8,7 +8,7 @@ ghost use Rattle.call_model.specs.Branch as parts;
 ghost use Rattle.call_model.specs.Server as server;
 
 use crate::state::CallState;
-use crate::states::{shows_each, shows_open, shows_trying};
+use crate::states::{shows_open, shows_trying, state_flags};
 use call_branch::Branch;
 use std::alloc::Allocator;
 
@@ -134,7 +134,7 @@ impl<A: Allocator + Clone> CallState<A> {
         ensures timer_c_due { result.timer_c_due ≡ timer_c_at (nth_branch self.now n) }
         ensures give_up_due { result.give_up_due ≡ give_up_at (nth_branch self.now n) }
     {
-        let (trying, cancelled, timer_c_runs) = shows_each(self.state(n));
+        let (trying, cancelled, timer_c_runs) = state_flags(self.state(n));
         let branch = self.branch(n);
         BranchView {
             sent: is_sent_on(branch),

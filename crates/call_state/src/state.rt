@@ -42,9 +42,7 @@ use crate::closing::Closing;
 use crate::fault::PostFault;
 use crate::look::timer_c_at;
 use crate::reasons::ReasonLines;
-use call_answers::{
-    OwedAnswer, PendingResponses, Queue, ResponseEvent, add_rows, again_if, first_owed, owed_by,
-};
+use call_answers::{OwedAnswer, PendingResponses, ResponseEvent, ResponseQueue, add_rows, initial_queue, resend_if, response_for};
 use call_branch::{
     Branch, CancelTransaction, ClientTransaction, Destination, OpenedRequest, ServerTransaction,
     answer_event, branch_in, destination_at, is_response, no_branches, put_branch, response_event,
@@ -72,7 +70,7 @@ pub struct CallState<A: Allocator + Clone = Global> {
     destinations: Vec<Destination<A>, A>,
     branches: Vec<Option<Branch<A>>, A>,
     served: ServerTransaction,
-    owed: Queue<A>,
+    owed: ResponseQueue<A>,
     last: Vec<u8, A>,
     alloc: A,
 }
@@ -123,7 +121,7 @@ impl<A: Allocator + Clone> CallState<A> {
         ensures { IfOk result (λ state. state ≡ begun opened book destinations.items) }
     {
         let branches = no_branches(alloc.clone()?, book.context().count())?;
-        let owed = first_owed(alloc.clone()?, opened.kind())?;
+        let owed = initial_queue(alloc.clone()?, opened.kind())?;
         let last = Vec::new(alloc.clone()?);
         let served = ServerTransaction::start(opened.kind(), now, opened.caller().transport);
         Ok(CallState {
@@ -236,7 +234,7 @@ impl<A: Allocator + Clone> CallState<A> {
     // ---- one change of a branch
 
     /// Sets the client transaction of branch n, which went on; where an ACK was made, the branch owes it.
-    pub(crate) fn respond_part(
+    pub(crate) fn respond_branch(
         &mut self,
         n: u16,
         client: ClientTransaction,
@@ -252,7 +250,7 @@ impl<A: Allocator + Clone> CallState<A> {
 
     /// Notes that a response of branch n was posted: when timer C fires from now on, and the failure that is kept, if there
     /// is one.
-    pub(crate) fn keep_part(&mut self, n: u16, timer_c_at: Option<u64>, answer: Option<Message<A>>)
+    pub(crate) fn keep_branch(&mut self, n: u16, timer_c_at: Option<u64>, answer: Option<Message<A>>)
         requires there { n < length self.old.branches }
         ensures { self.new ≡ record self.old { branches = changed_branch (kept timer_c_at answer) self.old.branches n } }
     {
@@ -269,7 +267,7 @@ impl<A: Allocator + Clone> CallState<A> {
     }
 
     /// Notes that the CANCEL of branch n was sent.
-    fn cancel_part(&mut self, n: u16, cancelling: CancelTransaction<A>)
+    fn cancel_branch(&mut self, n: u16, cancelling: CancelTransaction<A>)
         requires there { n < length self.old.branches }
         ensures { self.new ≡ record self.old { branches = changed_branch (cancelled cancelling) self.old.branches n } }
     {
@@ -279,7 +277,7 @@ impl<A: Allocator + Clone> CallState<A> {
     }
 
     /// Sets the transaction of branch n's CANCEL, which went on.
-    pub(crate) fn cancel_on_part(&mut self, n: u16, client: OtherClient)
+    pub(crate) fn cancel_on_branch(&mut self, n: u16, client: OtherClient)
         requires there { n < length self.old.branches }
         ensures { self.new ≡ record self.old { branches = changed_branch (cancel_on client) self.old.branches n } }
     {
@@ -304,7 +302,7 @@ impl<A: Allocator + Clone> CallState<A> {
     pub(crate) fn feed_server(&mut self, event: TxEvent, now: u64)
         ensures { self.new ≡ served_on self.old event now }
     {
-        let (served, _out) = self.served.fed(event, now);
+        let (served, _out) = self.served.on_event(event, now);
         self.served = served;
     }
 
@@ -313,7 +311,7 @@ impl<A: Allocator + Clone> CallState<A> {
         requires some { 0 < length self.old.server.owed }
         ensures { self.new ≡ record self.old { server = record self.old.server { owed = drop 1 self.old.server.owed } } }
     {
-        self.owed.pay_first();
+        self.owed.dequeue();
     }
 
     // ---- to a branch
@@ -376,7 +374,7 @@ impl<A: Allocator + Clone> CallState<A> {
         let to = self.destination(n).hop();
         let sent = self.cancel_bytes(self.destination(n), n)?;
         let bytes = Vec::from_slice(self.alloc.clone()?, &sent)?;
-        self.cancel_part(n, CancelTransaction::start(now, sent, to.transport));
+        self.cancel_branch(n, CancelTransaction::start(now, sent, to.transport));
         Ok(Datagram {
             to,
             bytes,
@@ -423,13 +421,13 @@ impl<A: Allocator + Clone> CallState<A> {
             Err(PostError::Full(_)) => unreachable!(),
         };
         let up = up_at(&self.book, at);
-        self.owed.owe_if(owed_by(up, None));
+        self.owed.enqueue_if(response_for(up, None));
         Ok(())
     }
 
     /// Posts an event that adds no row and by which branch n ends, and sets the client transaction of the branch, which
     /// went on.
-    pub(crate) fn end_part(
+    pub(crate) fn end_branch(
         &mut self,
         n: u16,
         client: ClientTransaction,
@@ -443,7 +441,7 @@ impl<A: Allocator + Clone> CallState<A> {
     {
         let _part = self.part(n);
         self.post_bare(event)?;
-        self.respond_part(n, client, None);
+        self.respond_branch(n, client, None);
         Ok(())
     }
 
@@ -523,7 +521,7 @@ impl<A: Allocator + Clone> CallState<A> {
             &mut self.branches,
         );
         let up = up_at(&self.book, at);
-        self.owed.owe_if(owed_by(up, response));
+        self.owed.enqueue_if(response_for(up, response));
         Ok(at)
     }
 
@@ -537,8 +535,8 @@ impl<A: Allocator + Clone> CallState<A> {
         let Some(cancelling) = self.part(n).cancelling() else {
             unreachable!()
         };
-        let (client, _out) = cancelling.fed(response_event(status), now);
-        self.cancel_on_part(n, client);
+        let (client, _out) = cancelling.on_event(response_event(status), now);
+        self.cancel_on_branch(n, client);
     }
 
     // ---- from the caller
@@ -553,12 +551,12 @@ impl<A: Allocator + Clone> CallState<A> {
         ensures ok { OnOk result (self.new ≡ requested_again self.old now) }
         ensures err { OnErr result (self.new ≡ self.old) }
     {
-        let (served, out) = self.served.fed(TxEvent::Request, now);
+        let (served, out) = self.served.on_event(TxEvent::Request, now);
         if self.owed.reserve(1).is_err() {
             return Err(AllocError);
         }
         self.served = served;
-        self.owed.owe_if(again_if(is_response(out.send)));
+        self.owed.enqueue_if(resend_if(is_response(out.send)));
         Ok(())
     }
 
@@ -602,8 +600,8 @@ impl<A: Allocator + Clone> CallState<A> {
             Err(PostError::Full(_)) => unreachable!(),
         };
         let up = up_at(&self.book, at);
-        self.owed.owe(OwedAnswer::CancelOk(cancel, to));
-        self.owed.owe_if(owed_by(up, None));
+        self.owed.enqueue(OwedAnswer::CancelOk(cancel, to));
+        self.owed.enqueue_if(response_for(up, None));
         self.closing = Closing::ByCancel(reasons);
         Ok(Taken::Posted(at))
     }
@@ -625,7 +623,7 @@ impl<A: Allocator + Clone> CallState<A> {
         if self.owed.reserve(1).is_err() {
             return Err(AllocError);
         }
-        self.owed.owe(OwedAnswer::CancelOk(cancel, to));
+        self.owed.enqueue(OwedAnswer::CancelOk(cancel, to));
         Ok(Taken::Absorbed)
     }
 
@@ -644,17 +642,17 @@ impl<A: Allocator + Clone> CallState<A> {
             → AnswersWith self.old now (drop 1 self.old.server.owed) (Some m) (pumped step) self.new) }
         ensures err { OnErr result (self.new ≡ self.old) }
     {
-        let (served, out) = self.served.fed(answer_event(status), now);
+        let (served, out) = self.served.on_event(answer_event(status), now);
         if !is_response(out.send) {
             self.served = served;
-            self.owed.pay_first();
+            self.owed.dequeue();
             return Ok(Step::Did);
         }
         let bytes = Vec::from_slice(self.alloc.clone()?, &text)?;
         let to = self.opened.caller();
         self.served = served;
         self.last = text;
-        self.owed.pay_first();
+        self.owed.dequeue();
         Ok(Step::Send(Datagram {
             to,
             bytes,
@@ -679,7 +677,7 @@ impl<A: Allocator + Clone> CallState<A> {
         ensures ok { IfOk result (λ step. TicksServer self.old now (pumped step) self.new) }
         ensures err { OnErr result (self.new ≡ self.old) }
     {
-        let (served, out) = self.served.fed(TxEvent::Tick, now);
+        let (served, out) = self.served.on_event(TxEvent::Tick, now);
         if !is_response(out.send) {
             self.served = served;
             return Ok(Step::Did);

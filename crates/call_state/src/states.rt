@@ -26,7 +26,7 @@ pub(crate) fn shows_open(state: Option<State>) -> bool
 
 /// Three tests of one state: whether the branch was tried and no response to it has come; whether it is cancelled and has not
 /// ended; and whether it was tried, and is neither cancelled nor has it ended.
-pub(crate) fn shows_each(state: Option<State>) -> (bool, bool, bool)
+pub(crate) fn state_flags(state: Option<State>) -> (bool, bool, bool)
     ensures trying { result.0 ≡ shown.shows_trying state }
     ensures cancelled { result.1 ≡ shown.shows_cancelled state }
     ensures timer_c { result.2 ≡ shown.shows_timer_c state }

@@ -44,17 +44,17 @@ impl<A: Allocator + Clone> CallState<A> {
         ensures err { OnErr result (self.new ≡ self.old) }
     {
         let _destination = self.destination(n);
-        let (client, out) = self.part(n).fed(TxEvent::Tick, now);
+        let (client, out) = self.part(n).on_event(TxEvent::Tick, now);
         if is_timeout(out.pass) {
-            self.end_part(n, client, Event::Timeout(n))?;
+            self.end_branch(n, client, Event::Timeout(n))?;
             return Ok(Step::Did);
         }
         if !is_request(out.send) {
-            self.respond_part(n, client, None);
+            self.respond_branch(n, client, None);
             return Ok(Step::Did);
         }
         let datagram = self.request_again(n)?;
-        self.respond_part(n, client, None);
+        self.respond_branch(n, client, None);
         Ok(Step::Send(datagram))
     }
 
@@ -88,13 +88,13 @@ impl<A: Allocator + Clone> CallState<A> {
         let Some(cancelling) = self.part(n).cancelling() else {
             unreachable!()
         };
-        let (client, out) = cancelling.fed(TxEvent::Tick, now);
+        let (client, out) = cancelling.on_event(TxEvent::Tick, now);
         if !is_request(out.send) {
-            self.cancel_on_part(n, client);
+            self.cancel_on_branch(n, client);
             return Ok(Step::Did);
         }
         let datagram = self.cancel_again(n)?;
-        self.cancel_on_part(n, client);
+        self.cancel_on_branch(n, client);
         Ok(Step::Send(datagram))
     }
 
@@ -110,13 +110,13 @@ impl<A: Allocator + Clone> CallState<A> {
         ensures ok { OnOk result (OnPart self.old n (λ branch. FiresTimerC self.old now n branch (row_passes table.is_trying self.old n) pump.Did self.new)) }
         ensures err { OnErr result (self.new ≡ self.old) }
     {
-        let (client, _out) = self.part(n).fed(TxEvent::Stop, now);
+        let (client, _out) = self.part(n).on_event(TxEvent::Stop, now);
         if !self.is_trying(n) {
             self.post_bare(Event::TimerC(n))?;
-            self.keep_part(n, None, None);
+            self.keep_branch(n, None, None);
             return Ok(());
         }
-        self.end_part(n, client, Event::TimerC(n))?;
+        self.end_branch(n, client, Event::TimerC(n))?;
         Ok(())
     }
 
@@ -132,8 +132,8 @@ impl<A: Allocator + Clone> CallState<A> {
         ensures ok { OnOk result (OnPart self.old n (λ branch. GivesUp self.old now n branch pump.Did self.new)) }
         ensures err { OnErr result (self.new ≡ self.old) }
     {
-        let (client, _out) = self.part(n).fed(TxEvent::Stop, now);
-        self.end_part(n, client, Event::GiveUp(n))?;
+        let (client, _out) = self.part(n).on_event(TxEvent::Stop, now);
+        self.end_branch(n, client, Event::GiveUp(n))?;
         Ok(())
     }
 }

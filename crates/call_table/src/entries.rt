@@ -22,7 +22,7 @@ pub(crate) struct Shelved<T> {
 
 /// A value behind its lock, and the key that it was put under.
 #[derive(Drop)]
-pub(crate) struct Entry<T, A: Allocator> {
+pub(crate) struct ShelfEntry<T, A: Allocator> {
     pub(crate) key: Vec<u8, A>,
     pub(crate) value: Arc<Mutex<Shelved<T>>, A>,
 }
@@ -31,18 +31,18 @@ pub(crate) struct Entry<T, A: Allocator> {
 /// is how far the number is behind `base`. A place is empty where its entry was taken away. Where most places are empty the
 /// first ones are left behind, and their entries move into the map: so a few that stay for long take no memory for later numbers.
 #[derive(Drop)]
-pub(crate) struct Entries<T, A: Allocator> {
+pub(crate) struct ShelfEntries<T, A: Allocator> {
     base: u64,
-    early: BTreeMap<u64, Entry<T, A>, A>,
-    places: VecDeque<Option<Entry<T, A>>, A>,
+    early: BTreeMap<u64, ShelfEntry<T, A>, A>,
+    places: VecDeque<Option<ShelfEntry<T, A>>, A>,
     /// How many places have an entry.
     placed: u64,
 }
 
-impl<T: Drop, A: Allocator + Clone> Entries<T, A> {
+impl<T: Drop, A: Allocator + Clone> ShelfEntries<T, A> {
     /// No entry, and no number given.
-    pub(crate) fn new(early: A, places: A) -> Entries<T, A> {
-        Entries {
+    pub(crate) fn new(early: A, places: A) -> ShelfEntries<T, A> {
+        ShelfEntries {
             base: 0,
             early: BTreeMap::new(early),
             places: VecDeque::new(places),
@@ -61,7 +61,7 @@ impl<T: Drop, A: Allocator + Clone> Entries<T, A> {
     }
 
     /// Puts the entry of the number that comes next. Nothing is put where there is no room for its place.
-    pub(crate) fn push(&mut self, entry: Entry<T, A>) {
+    pub(crate) fn push(&mut self, entry: ShelfEntry<T, A>) {
         if self.places.push_back(Some(entry)).is_ok() {
             self.placed = self.placed.wrapping_add(1);
         }
@@ -76,7 +76,7 @@ impl<T: Drop, A: Allocator + Clone> Entries<T, A> {
     }
 
     /// The entry of a number, where it was put and not taken away.
-    pub(crate) fn get(&self, no: u64) -> Option<&Entry<T, A>>
+    pub(crate) fn get(&self, no: u64) -> Option<&ShelfEntry<T, A>>
         ensures { is_some result ≡ is_there self.now no }
     {
         let Some(at) = self.place_of(no) else {
@@ -89,7 +89,7 @@ impl<T: Drop, A: Allocator + Clone> Entries<T, A> {
     }
 
     /// Takes the entry of a number away.
-    pub(crate) fn take(&mut self, no: u64) -> Option<Entry<T, A>> {
+    pub(crate) fn take(&mut self, no: u64) -> Option<ShelfEntry<T, A>> {
         let Some(at) = self.place_of(no) else {
             return self.early.remove(&no);
         };

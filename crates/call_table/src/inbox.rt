@@ -34,9 +34,9 @@ impl<J> Protocol<J, Known<J>> for Inbox {
 }
 
 /// The first pass is cut in two: one that gives and one that receives.
-struct Ends;
+struct InboxEnds;
 
-impl<J> Split<Known<J>> for Ends {
+impl<J> Split<Known<J>> for InboxEnds {
     ghost use Rattle.std.specs.Prelude.{true, false, []};
     ghost use Rattle.call_table.specs.Inbox.{known};
 
@@ -45,7 +45,7 @@ impl<J> Split<Known<J>> for Ends {
     ghost right = { λ v. known false true [] v.received };
 }
 
-impl<J> Join<Known<J>> for Ends {
+impl<J> Join<Known<J>> for InboxEnds {
     ghost use Rattle.std.specs.Prelude.{true, false, []};
     ghost use Rattle.call_table.specs.Inbox.{known};
 
@@ -138,7 +138,7 @@ impl Inbox {
         let (sender, receiver, mut giving) = bounded_with::<J, Known<J>, Inbox, A>(
             alloc, MOST_JOBS,
         )?;
-        let receiving = sender.another::<Ends>(&mut giving);
+        let receiving = sender.another::<InboxEnds>(&mut giving);
         Ok((
             InboxIn {
                 sender,
@@ -198,7 +198,7 @@ impl<J: Drop, A: Allocator> InboxOut<J, A> {
             pass: mut giving,
         } = other;
         let InboxOut { receiver, pass } = self;
-        sender.absorb::<Ends>(&mut giving, pass);
+        sender.absorb::<InboxEnds>(&mut giving, pass);
         sender.learn_as::<Receives>(&mut giving);
         InboxOut {
             receiver,

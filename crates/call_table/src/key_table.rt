@@ -10,7 +10,7 @@ use std::hash::{FoldHasher, Hasher};
 
 /// Why a key gets no number.
 #[derive(Clone, Copy, PartialEq, Eq, Debug)]
-pub(crate) enum Taken {
+pub(crate) enum TakenKey {
     /// The key has this number.
     Known(u64),
     /// No number is left.
@@ -19,7 +19,7 @@ pub(crate) enum Taken {
 
 /// A key with its number.
 #[derive(Drop)]
-pub(crate) struct Listed<A: Allocator> {
+pub(crate) struct ListedKey<A: Allocator> {
     key: Vec<u8, A>,
     number: u64,
 }
@@ -29,7 +29,7 @@ pub(crate) struct Listed<A: Allocator> {
 #[derive(Drop)]
 pub(crate) struct KeyTable<A: Allocator> {
     /// For each digest the first key that has it.
-    firsts: BTreeMap<u64, Listed<A>, A>,
+    firsts: BTreeMap<u64, ListedKey<A>, A>,
     /// The keys whose digest an earlier key has.
     others: BTreeMap<Vec<u8, A>, u64, A>,
     pub(crate) next: u64,
@@ -73,16 +73,16 @@ impl<A: Allocator + Clone> KeyTable<A> {
     }
 
     /// The number that a new key gets.
-    pub(crate) fn free(&self, key: &[u8]) -> Result<u64, Taken>
+    pub(crate) fn free(&self, key: &[u8]) -> Result<u64, TakenKey>
         ensures number { IfOk result (λ no. (no ≡ self.now.next) × (no + 1 < 2 ^ 64)) }
         ensures new { OnOk result (number_of self.now key.now ≡ None) }
         ensures known { (no : ℕ) → IsErrOf result (Taken.Known no) ↔ (number_of self.now key.now ≡ Some no) }
     {
         if let Some(no) = self.keyed(key) {
-            return Err(Taken::Known(no));
+            return Err(TakenKey::Known(no));
         }
         if self.next == u64::MAX {
-            return Err(Taken::Spent);
+            return Err(TakenKey::Spent);
         }
         Ok(self.next)
     }
@@ -97,7 +97,7 @@ impl<A: Allocator + Clone> KeyTable<A> {
         ensures err { OnErr result (IsSame self.old self.new) }
     {
         let number = self.next;
-        let Ok(_) = self.firsts.insert(digest, Listed { key, number }) else {
+        let Ok(_) = self.firsts.insert(digest, ListedKey { key, number }) else {
             return Err(AllocError);
         };
         self.next = number + 1;

@@ -5,8 +5,8 @@ ghost use Rattle.call_table.specs.inner.KeyTable.{number_of, IsListed, IsSame, I
 ghost use Rattle.call_table.specs.Faults.{IfKnown, IfMade};
 ghost use Rattle.call_table.specs.Removals.{said};
 
-use crate::entries::{Entries, Entry, Shelved};
-use crate::key_table::{KeyTable, Taken};
+use crate::entries::{ShelfEntries, ShelfEntry, Shelved};
+use crate::key_table::{KeyTable, TakenKey};
 use std::alloc::{AllocError, Allocator, Global};
 use std::sync::{Arc, Mutex, Wait};
 use thiserror::Error;
@@ -79,7 +79,7 @@ pub enum Removal {
 /// What stood under a number and a key, to be freed where no lock is held.
 #[derive(Drop)]
 struct Unlisted<T, A: Allocator> {
-    entry: Entry<T, A>,
+    entry: ShelfEntry<T, A>,
     key: Option<Vec<u8, A>>,
 }
 
@@ -89,7 +89,7 @@ struct Unlisted<T, A: Allocator> {
 pub struct Shelf<T: Numbered, A: Allocator = Global> {
     alloc: A,
     key_table: Mutex<KeyTable<A>>,
-    entries: Mutex<Entries<T, A>>,
+    entries: Mutex<ShelfEntries<T, A>>,
 }
 
 impl<T: Numbered + Drop, A: Allocator + Clone> Shelf<T, A> {
@@ -102,7 +102,7 @@ impl<T: Numbered + Drop, A: Allocator + Clone> Shelf<T, A> {
         Ok(Shelf {
             alloc,
             key_table: Mutex::new(KeyTable::new(firsts, others)),
-            entries: Mutex::new(Entries::new(early, places)),
+            entries: Mutex::new(ShelfEntries::new(early, places)),
         })
     }
 
@@ -145,8 +145,8 @@ impl<T: Numbered + Drop, A: Allocator + Clone> Shelf<T, A> {
     {
         let no = match key_table.free(key) {
             Ok(no) => no,
-            Err(Taken::Known(no)) => return Err(ShelfFault::Known(no)),
-            Err(Taken::Spent) => return Err(ShelfFault::Spent),
+            Err(TakenKey::Known(no)) => return Err(ShelfFault::Known(no)),
+            Err(TakenKey::Spent) => return Err(ShelfFault::Spent),
         };
         let value = match make(no) {
             Ok(value) => value,
@@ -196,8 +196,8 @@ impl<T: Numbered + Drop, A: Allocator + Clone> Shelf<T, A> {
     {
         let no = match key_table.free(&key) {
             Ok(no) => no,
-            Err(Taken::Known(no)) => return Err(PendingFault::Known(no, pending)),
-            Err(Taken::Spent) => return Err(PendingFault::Spent),
+            Err(TakenKey::Known(no)) => return Err(PendingFault::Known(no, pending)),
+            Err(TakenKey::Spent) => return Err(PendingFault::Spent),
         };
         match self.list(rt, key_table, key, pending.numbered(no)) {
             Ok(()) => Ok(no),
@@ -223,7 +223,7 @@ impl<T: Numbered + Drop, A: Allocator + Clone> Shelf<T, A> {
         let mut entries = self.entries.lock(rt);
         entries.reserve()?;
         key_table.list(key)?;
-        entries.push(Entry { key: name, value });
+        entries.push(ShelfEntry { key: name, value });
         Ok(())
     }
 

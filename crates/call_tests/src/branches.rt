@@ -8,7 +8,7 @@ use crate::state::{
     SECOND_VIA, TO, TO_FIRST, TO_SECOND, TRYING, VIA, begun, is_sent_as, is_silent, message_of,
     sends_cancel, step_sends,
 };
-use call_branch::status_of;
+use call_branch::response_status;
 use call_model::{Cause, Datagram, Step, Taken, branches_keep_their_answers, calls_stay_sound};
 use call_state::CallState;
 use sip_text::Message;
@@ -222,7 +222,7 @@ fn taken_from(state: &mut CallState, n: u16, now: u64, response: Message<Global>
     calls_stay_sound();
     branches_keep_their_answers();
     response.is_message();
-    let status = status_of(&response);
+    let status = response_status(&response);
     if !state.is_sent(n) || status < 100 || status > 699 {
         return None;
     }
@@ -266,7 +266,7 @@ fn answered(state: &mut CallState) -> Option<Step>
     if state.owed().is_empty() {
         return None;
     }
-    match state.send_owed(0) {
+    match state.send_next_response(0) {
         Ok(step) => Some(step),
         Err(_) => None,
     }

@@ -9,7 +9,7 @@ use call_routing::is_openable;
 use call_state::CallState;
 use fork_context::Kind;
 use proxy_config::Setup;
-use proxy_routing::{RequestRejection, is_domain, validate_request};
+use proxy_routing::{RequestRejection, is_responsible_for, validate_request};
 use sip_text::Message;
 use sip_uri::{Hop, SipUri, Transport};
 use std::alloc::Global;
@@ -59,7 +59,7 @@ fn a_request_is_admitted(rt: HostRuntime) {
 /// Whether a proxy that is set up so is responsible for the URI that a text spells.
 fn names(alloc: Global, setup: &Setup<Global>, text: &[u8]) -> Option<bool> {
     match SipUri::read(alloc, text) {
-        Ok(uri) => Some(is_domain(setup, &uri)),
+        Ok(uri) => Some(is_responsible_for(setup, &uri)),
         Err(_) => None,
     }
 }

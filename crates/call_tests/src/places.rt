@@ -1,6 +1,6 @@
 //! The place of the target or the contact that a row is for, among those that it came with (RFC 3261 section 16.5).
 use crate::holds::holds;
-use call_answers::place_of;
+use call_answers::row_place;
 use fork_book::Book;
 use fork_context::{Answer, Event, Kind, Offer, Target};
 use fork_rank::{Rules, Status};
@@ -129,7 +129,7 @@ fn redirected(alloc: Global) -> Option<Book> {
 /// The place of row n, if there is such a row.
 fn place_at(book: &Book, n: u16) -> Option<usize> {
     if n < book.context().count() {
-        Some(place_of(book, n))
+        Some(row_place(book, n))
     } else {
         None
     }

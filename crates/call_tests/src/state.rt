@@ -7,7 +7,7 @@ ghost use Rattle.call_model.specs.Sound.{IsSound};
 
 use crate::holds::holds;
 use call_answers::PendingResponse;
-use call_branch::{Destination, OpenedRequest, Opening, is_redirection, status_of};
+use call_branch::{Destination, OpenedRequest, Opening, is_redirection, response_status};
 use call_model::{
     Cause, Datagram, Step, Taken, TriedContacts, branches_keep_their_answers, calls_stay_sound,
 };
@@ -430,7 +430,7 @@ pub(crate) fn sends_ack(alloc: Global, state: &mut CallState, lines: &[&[u8]]) -
 
 /// What comes of a response to the first branch.
 fn taken_from(state: &mut CallState, response: Message<Global>, now: u64) -> Option<Taken> {
-    let status = status_of(&response);
+    let status = response_status(&response);
     if !state.is_sent(0) || status < 100 || status > 699 {
         return None;
     }
@@ -515,7 +515,7 @@ fn owes_again(state: &CallState) -> bool {
 /// Whether the second answer that is owed is a response of this status that goes up.
 fn passes(state: &CallState, status: u16) -> bool {
     match second_owed(state) {
-        Some(PendingResponse::Passed(response)) => status_of(response) == status,
+        Some(PendingResponse::Passed(response)) => response_status(response) == status,
         _ => false,
     }
 }
@@ -528,7 +528,7 @@ fn sends_owed(alloc: Global, state: &mut CallState, lines: &[&[u8]]) -> bool
     if state.owed().is_empty() {
         return false;
     }
-    match state.send_owed(0) {
+    match state.send_next_response(0) {
         Ok(step) => step_sends(alloc, &step, CALLER, Cause::Answer, lines),
         Err(_) => false,
     }
@@ -554,7 +554,7 @@ fn a_call_begins(rt: HostRuntime) {
     state.set_number(4);
     holds(&rt, state.opened().number() == 4, "its later number");
     holds(&rt, state.opened().kind() == Kind::Invite, "its kind");
-    holds(&rt, status_of(state.opened().request()) == 0, "its request");
+    holds(&rt, response_status(state.opened().request()) == 0, "its request");
     holds(&rt, is_redirection(399), "a 399 is a redirection");
     holds(&rt, state.book().history().is_empty(), "nothing was posted");
     holds(&rt, state.owed().len() == 1, "one answer is owed");

@@ -64,7 +64,7 @@ impl<A: Allocator> ExtrasTable<A> {
     pub fn has_key(&self, key: &[u8]) -> bool
         ensures { result ≡ list_any (λ row_extras. pointwise nat_eq key.now row_extras.key) self.now }
     {
-        let place = place_of(&self.all, &self.by_key, key);
+        let place = key_place(&self.all, &self.by_key, key);
         is_key_of(&self.all, number_at(&self.by_key, place), key)
     }
 
@@ -141,7 +141,7 @@ fn is_key_of<A: Allocator>(all: &[RowExtras<A>], n: Option<u16>, key: &[u8]) -> 
 }
 
 /// How many keys come before this one.
-fn place_of<A: Allocator>(all: &[RowExtras<A>], by_key: &[u16], key: &[u8]) -> usize
+fn key_place<A: Allocator>(all: &[RowExtras<A>], by_key: &[u16], key: &[u8]) -> usize
     requires { Rising all.now by_key.now }
     ensures within { result ≤ length by_key.now }
     ensures parted { Parted all.now key.now by_key.now result }
@@ -157,7 +157,7 @@ fn insert_number<A: Allocator>(by_key: &mut Vec<u16, A>, all: &[RowExtras<A>], n
     ensures capacity { vec_capacity by_key.new ≡ vec_capacity by_key.old }
     ensures len { vec_len by_key.new ≡ vec_len by_key.old + 1 }
 {
-    let place = place_of(all, by_key, key_at(all, n));
+    let place = key_place(all, by_key, key_at(all, n));
     let _ = by_key.insert(place, n);
 }
 

@@ -1,6 +1,6 @@
 //! Credentials as they are read, and as they are not.
 use crate::holds::{holds_of, is};
-use sip_digest::{Algorithm, Quality, Reading, read_credentials};
+use sip_digest::{Algorithm, Quality, ReadCredentials, read_credentials};
 use std::alloc::Global;
 
 /// What a value is for the realm `example.com`.
@@ -13,9 +13,9 @@ enum Kind {
 
 fn kind_of(alloc: Global, value: &[u8]) -> Option<Kind> {
     match read_credentials(alloc, value, b"example.com") {
-        Ok(Reading::OtherRealm) => Some(Kind::Other),
-        Ok(Reading::Unreadable) => Some(Kind::Unreadable),
-        Ok(Reading::Read(_)) => Some(Kind::Read),
+        Ok(ReadCredentials::OtherRealm) => Some(Kind::Other),
+        Ok(ReadCredentials::Unreadable) => Some(Kind::Unreadable),
+        Ok(ReadCredentials::Read(_)) => Some(Kind::Read),
         Err(_) => None,
     }
 }
@@ -179,7 +179,7 @@ fn has_texts(
     response: &[u8],
 ) -> bool {
     match read_credentials(alloc, value, b"r") {
-        Ok(Reading::Read(c)) => {
+        Ok(ReadCredentials::Read(c)) => {
             is(c.username.as_slice(), username)
                 && is(c.nonce.as_slice(), nonce)
                 && is(c.uri.as_slice(), uri)
@@ -232,7 +232,7 @@ fn texts_are_without_quotes_and_escapes(rt: HostRuntime) {
 /// The algorithm that a value names, where it is read.
 fn algorithm_of(alloc: Global, value: &[u8]) -> Option<Option<Algorithm>> {
     match read_credentials(alloc, value, b"r") {
-        Ok(Reading::Read(c)) => Some(c.algorithm),
+        Ok(ReadCredentials::Read(c)) => Some(c.algorithm),
         _ => None,
     }
 }
@@ -240,7 +240,7 @@ fn algorithm_of(alloc: Global, value: &[u8]) -> Option<Option<Algorithm>> {
 /// What a value says of the quality of protection: a digit, or `-` where it is not read.
 fn quality_of(alloc: Global, value: &[u8]) -> u8 {
     match read_credentials(alloc, value, b"r") {
-        Ok(Reading::Read(c)) => match &c.quality {
+        Ok(ReadCredentials::Read(c)) => match &c.quality {
             Quality::Unsaid => b'0',
             Quality::Auth(nc, cnonce, qop) => {
                 if is(nc.as_slice(), b"0000000a")

@@ -1,9 +1,6 @@
 //! Whether credentials are right: those of bob, whose password is `secret`, by SHA-256 for a REGISTER.
 use crate::holds::holds;
-use sip_digest::{
-    Algorithms, Asked, Protection, Reading, Secrets, Verdict, append_nonce, is_uri_of,
-    read_credentials, sha256_response, verdict_of,
-};
+use sip_digest::{Algorithms, CredentialsVerdict, JudgedRequest, Protection, ReadCredentials, Secrets, append_nonce, is_uri_of, read_credentials, sha256_response, verdict_of};
 use std::alloc::{AllocError, Global};
 
 const SECRET: [u8; 32] = [7; 32];
@@ -80,10 +77,10 @@ fn judged(
     alloc: Global,
     value: &[u8],
     secrets: Option<Secrets>,
-    asked: &Asked<'_>,
-) -> Option<Verdict> {
+    asked: &JudgedRequest<'_>,
+) -> Option<CredentialsVerdict> {
     match read_credentials(alloc, value, b"example.com") {
-        Ok(Reading::Read(credentials)) => {
+        Ok(ReadCredentials::Read(credentials)) => {
             match verdict_of(
                 alloc,
                 &SECRET,
@@ -106,8 +103,8 @@ fn verdict(
     telephone: &Telephone,
     address: &[u8],
     secrets: Option<Secrets>,
-    asked: &Asked<'_>,
-) -> Option<Verdict> {
+    asked: &JudgedRequest<'_>,
+) -> Option<CredentialsVerdict> {
     let Ok(nonce) = nonce_for(alloc, address) else {
         return None;
     };
@@ -117,7 +114,7 @@ fn verdict(
     judged(alloc, value.as_slice(), secrets, asked)
 }
 
-const ASKED: Asked<'static> = Asked {
+const ASKED: JudgedRequest<'static> = JudgedRequest {
     method: b"REGISTER",
     uri: b"sip:example.com",
     address: ADDRESS,
@@ -128,10 +125,10 @@ const ASKED: Asked<'static> = Asked {
 fn the_password_of_the_user_is_right(rt: HostRuntime) {
     let alloc = rt.alloc();
     let known = known_by(BOB);
-    let right = Some(Verdict::Right);
+    let right = Some(CredentialsVerdict::Right);
     let given = verdict(alloc, &TELEPHONE, ADDRESS, known, &ASKED);
     holds(&rt, given == right, "at once");
-    let last = Asked {
+    let last = JudgedRequest {
         method: b"REGISTER",
         uri: b"sip:example.com",
         address: ADDRESS,
@@ -142,7 +139,7 @@ fn the_password_of_the_user_is_right(rt: HostRuntime) {
         verdict(alloc, &TELEPHONE, ADDRESS, known, &last) == right,
         "after 299 seconds",
     );
-    let spelled = Asked {
+    let spelled = JudgedRequest {
         method: b"REGISTER",
         uri: b"SIP:EXAMPLE.COM",
         address: ADDRESS,
@@ -159,8 +156,8 @@ fn the_password_of_the_user_is_right(rt: HostRuntime) {
 fn a_nonce_that_is_not_good_is_stale(rt: HostRuntime) {
     let alloc = rt.alloc();
     let known = known_by(BOB);
-    let stale = Some(Verdict::Stale);
-    let late = Asked {
+    let stale = Some(CredentialsVerdict::Stale);
+    let late = JudgedRequest {
         method: b"REGISTER",
         uri: b"sip:example.com",
         address: ADDRESS,
@@ -193,7 +190,7 @@ fn with_rest(rest: &'static [u8]) -> Telephone {
 fn all_else_is_wrong(rt: HostRuntime) {
     let alloc = rt.alloc();
     let known = known_by(BOB);
-    let wrong = Some(Verdict::Wrong);
+    let wrong = Some(CredentialsVerdict::Wrong);
     let unknown = verdict(alloc, &TELEPHONE, ADDRESS, None, &ASKED);
     holds(&rt, unknown == wrong, "a user who is not known");
     let others = verdict(alloc, &TELEPHONE, ADDRESS, known_by(ALICE), &ASKED);
@@ -207,7 +204,7 @@ fn all_else_is_wrong(rt: HostRuntime) {
         verdict(alloc, &TELEPHONE, ADDRESS, only_md5, &ASKED) == wrong,
         "no digits by that algorithm",
     );
-    let invite = Asked {
+    let invite = JudgedRequest {
         method: b"INVITE",
         uri: b"sip:example.com",
         address: ADDRESS,
@@ -218,7 +215,7 @@ fn all_else_is_wrong(rt: HostRuntime) {
         verdict(alloc, &TELEPHONE, ADDRESS, known, &invite) == wrong,
         "another method",
     );
-    let elsewhere = Asked {
+    let elsewhere = JudgedRequest {
         method: b"REGISTER",
         uri: b"sip:elsewhere.example",
         address: ADDRESS,

@@ -1,6 +1,6 @@
 //! What a proxy counts of its calls.
 use crate::count::{Count, counter, labelled};
-use proxy_metrics::{Family, Kind, append_family, append_metrics};
+use proxy_metrics::{Family, MetricKind, append_family, append_metrics};
 use std::alloc::AllocError;
 
 /// Calls that failed, by the class of the status that went up (RFC 3261 section 7.2).
@@ -41,7 +41,7 @@ impl FailedCounts {
         ];
         let family = Family {
             name: b"forkproxy_calls_failed_total",
-            kind: Kind::Counter,
+            kind: MetricKind::Counter,
             label: b"class",
             values: &values,
         };

@@ -1,5 +1,5 @@
 //! One counter that all threads share.
-use proxy_metrics::{Kind, Labelled, Metric};
+use proxy_metrics::{Labelled, Metric, MetricKind};
 use std::sync::atomic::{AtomicU64, Ordering};
 
 /// One counter.
@@ -30,7 +30,7 @@ impl Count {
 pub(crate) fn counter(name: &'static [u8], count: &Count) -> Metric<'static> {
     Metric {
         name,
-        kind: Kind::Counter,
+        kind: MetricKind::Counter,
         value: count.value(),
     }
 }
@@ -39,7 +39,7 @@ pub(crate) fn counter(name: &'static [u8], count: &Count) -> Metric<'static> {
 pub(crate) fn gauge(name: &'static [u8], value: u64) -> Metric<'static> {
     Metric {
         name,
-        kind: Kind::Gauge,
+        kind: MetricKind::Gauge,
         value,
     }
 }

@@ -2,7 +2,7 @@
 use crate::call_counts::CallCounts;
 use crate::count::gauge;
 use crate::datagram_counts::DatagramCounts;
-use crate::latencies::Latencies;
+use crate::latencies::HandlingTimes;
 use proxy_metrics::append_metrics;
 use std::alloc::{AllocError, Global};
 
@@ -11,7 +11,7 @@ use std::alloc::{AllocError, Global};
 pub struct Counts {
     pub calls: CallCounts,
     pub datagrams: DatagramCounts,
-    pub latencies: Latencies,
+    pub latencies: HandlingTimes,
 }
 
 /// What is looked up at the moment in which the counters are asked for.
@@ -39,7 +39,7 @@ impl Counts {
         Counts {
             calls: CallCounts::new(),
             datagrams: DatagramCounts::new(),
-            latencies: Latencies::new(),
+            latencies: HandlingTimes::new(),
         }
     }
 

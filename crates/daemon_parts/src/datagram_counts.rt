@@ -1,6 +1,6 @@
 //! What a proxy counts of the datagrams that come, and of those that it sends.
 use crate::count::{Count, counter, labelled};
-use proxy_metrics::{Family, Kind, Labelled, append_family, append_metrics};
+use proxy_metrics::{Family, Labelled, MetricKind, append_family, append_metrics};
 use std::alloc::AllocError;
 
 /// Requests that the proxy answered without a call, by the status.
@@ -65,7 +65,7 @@ impl AnsweredCounts {
         ];
         let family = Family {
             name: b"forkproxy_answered_total",
-            kind: Kind::Counter,
+            kind: MetricKind::Counter,
             label: b"status",
             values: &values,
         };
@@ -107,7 +107,7 @@ impl SentCounts {
         let values = self.values();
         let family = Family {
             name,
-            kind: Kind::Counter,
+            kind: MetricKind::Counter,
             label: b"message",
             values: &values,
         };

@@ -1,6 +1,6 @@
 //! How long datagrams took to be handled.
 use crate::count::Count;
-use proxy_metrics::{Bucket, Histogram, append_histogram, class_of};
+use proxy_metrics::{Histogram, HistogramClass, append_histogram, class_of};
 use std::alloc::AllocError;
 
 /// The ends of the classes, in microseconds; what is longer has a class of its own.
@@ -8,14 +8,14 @@ const CLASSES: [u64; 5] = [100, 500, 1_000, 10_000, 100_000];
 
 /// How long datagrams took to be handled, in microseconds.
 #[derive(Drop)]
-pub struct Latencies {
+pub struct HandlingTimes {
     within: [Count; 6],
     sum: Count,
 }
 
-impl Latencies {
-    pub(crate) fn new() -> Latencies {
-        Latencies {
+impl HandlingTimes {
+    pub(crate) fn new() -> HandlingTimes {
+        HandlingTimes {
             within: [
                 Count::new(),
                 Count::new(),
@@ -44,8 +44,8 @@ impl Latencies {
         }
     }
 
-    fn bucket(&self, class: usize) -> Bucket {
-        Bucket {
+    fn bucket(&self, class: usize) -> HistogramClass {
+        HistogramClass {
             bound: CLASSES.get(class).copied().unwrap_or(0),
             count: self.count(class),
         }

@@ -30,12 +30,12 @@ pub use fault::{
 };
 pub use files::ProxyFiles;
 pub use keep_alive::is_keep_alive;
-pub use latencies::Latencies;
+pub use latencies::HandlingTimes;
 pub use marks::Marks;
 pub use memory::{
     calls_within, group_limit, memory_total, most_calls_here, resident_bytes, resident_pages,
 };
 pub use options::Options;
-pub use places::Places;
-pub use setup::{Identity, UnobeyedLine, read_again, read_setup, read_text};
-pub use socket::{Sent, Socket};
+pub use places::CallQuota;
+pub use setup::{Identity, UnobeyedLine, read_setup, read_text};
+pub use socket::{SendOutcome, Socket};

@@ -8,12 +8,12 @@ use std::marker::Model;
 /// Places for calls: for how many there is room, and how many are taken. A request that begins something new opens a call only where one
 /// of these places is left. One within a dialog, which a caller may not repeat elsewhere, has a tenth more.
 #[derive(Drop)]
-pub struct Places {
+pub struct CallQuota {
     most: u64,
     taken: u64,
 }
 
-impl Model for Places {
+impl Model for CallQuota {
     ghost use Rattle.daemon_parts.specs.Places.{PlaceCount};
 
     ghost Value = { PlaceCount };
@@ -28,12 +28,12 @@ fn most_within_dialog(most: u64) -> u64
     most.saturating_add((most / 10).max(1))
 }
 
-impl Places {
+impl CallQuota {
     /// So many places, of which none is taken.
-    pub fn new(most: u64) -> Places
+    pub fn new(most: u64) -> CallQuota
         ensures { result ≡ record { most = most; taken = 0 } }
     {
-        Places { most, taken: 0 }
+        CallQuota { most, taken: 0 }
     }
 
     /// Keeps a place for a request that begins something new, and says whether one was left.

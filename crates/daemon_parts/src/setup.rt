@@ -133,25 +133,3 @@ pub fn read_setup<R: ProxyFiles>(
     read_text(alloc, text.as_slice(), number)
 }
 
-/// Reads a configuration's file anew for a proxy that has this identity. The number is that of its run, which is the instance of a file
-/// that has no line of one.
-///
-/// # Errors
-///
-/// Those of [`read_setup`]; else `Identity` where it has another one.
-pub fn read_again<R: ProxyFiles>(
-    rt: &R,
-    alloc: Global,
-    config: &str,
-    number: u32,
-    identity: Identity,
-) -> Result<Setup<Global>, DaemonFault>
-    ensures own { IfOk result (λ setup. setup.own ≡ identity.own) }
-    ensures instance { IfOk result (λ setup. setup.instance ≡ identity.instance) }
-{
-    let setup = read_setup(rt, alloc, config, number)?;
-    if setup.own() != identity.own || setup.instance() != identity.instance {
-        return Err(DaemonFault::Identity);
-    }
-    Ok(setup)
-}

@@ -24,7 +24,7 @@ const ROOM: i32 = 4_194_304;
 
 /// What became of a send.
 #[derive(Clone, Copy, Debug, PartialEq, Eq)]
-pub enum Sent {
+pub enum SendOutcome {
     /// The system took the whole datagram.
     Whole,
     /// It had no room in time, so the datagram is lost, as it may be on its way: a transaction sends its own again.
@@ -127,13 +127,13 @@ impl Socket {
 
     /// Sends a datagram. Where the socket has no room the send waits some hundredths of a second at most: what waits for hosts that cannot
     /// be found fills the room of all others, and would else hold every worker for seconds.
-    pub fn send(&self, bytes: &[u8], to: Hop) -> Sent {
+    pub fn send(&self, bytes: &[u8], to: Hop) -> SendOutcome {
         match self.udp.send_to(bytes, address(to)) {
-            Ok(count) if count == bytes.len() => Sent::Whole,
-            Ok(_) => Sent::Refused,
+            Ok(count) if count == bytes.len() => SendOutcome::Whole,
+            Ok(_) => SendOutcome::Refused,
             Err(error) => match error.kind() {
-                ErrorKind::WouldBlock | ErrorKind::Interrupted => Sent::Lost,
-                _ => Sent::Refused,
+                ErrorKind::WouldBlock | ErrorKind::Interrupted => SendOutcome::Lost,
+                _ => SendOutcome::Refused,
             },
         }
     }

@@ -4,7 +4,7 @@ use crate::texts::{
     ASKED, BESIDE, BOB, CALLER, CAROL, CAROL_AFTERWARDS, CONFIGURATION, INVITE, OPTIONS, Request,
 };
 use daemon_parts::DaemonFault;
-use proxy_service::State;
+use proxy_service::ServiceState;
 
 /// Keeps to all that an option asks for.
 const ALL: Served = Served {
@@ -105,15 +105,15 @@ const LIMITS: &[Moment] = &[
     (40, Turn::Keeps(2, 2)),
     (50, Turn::Stops(10)),
     (50, Turn::Reloads(CONFIGURATION, Ok(()))),
-    (50, Turn::Is(State::Draining)),
+    (50, Turn::Is(ServiceState::Draining)),
     (60, Turn::Asks(ASKED)),
     (60, Turn::Sends(CALLER, "SIP/2.0 503 ", "asked")),
     (10_049, Turn::Passes(60)),
-    (10_049, Turn::Is(State::Draining)),
+    (10_049, Turn::Is(ServiceState::Draining)),
     (10_050, Turn::Ticks),
-    (10_050, Turn::Is(State::Ended)),
+    (10_050, Turn::Is(ServiceState::Ended)),
     (10_050, Turn::Reloads(CONFIGURATION, Ok(()))),
-    (10_050, Turn::Is(State::Ended)),
+    (10_050, Turn::Is(ServiceState::Ended)),
     (10_050, Turn::Leaves),
     (10_050, Turn::Writes("0 INVITE ")),
     (10_050, Turn::Writes("1 OPTIONS ")),

@@ -3,7 +3,7 @@ ghost use Rattle.std.specs.Prelude.{◌≡◌};
 
 use crate::holds::holds;
 use crate::outbox::Outbox;
-use call_journal::{Happening, Note};
+use call_journal::{Note, NotedEvent};
 use call_table::Shelf;
 use daemon_parts::{DaemonFault, Options};
 use fork_call::{Call, Setup};
@@ -34,12 +34,12 @@ const TIME: u64 = 1_700_000_000;
 const NOTES: [Note; 2] = [
     Note {
         target: 0,
-        what: Happening::Rang(180),
+        what: NotedEvent::Rang(180),
         at: 120,
     },
     Note {
         target: 0,
-        what: Happening::Cancelled,
+        what: NotedEvent::Cancelled,
         at: 15_000,
     },
 ];

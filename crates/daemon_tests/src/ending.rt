@@ -1,7 +1,7 @@
 //! How a service ends.
 use crate::played::{Moment, PLAIN, Served, Turn, plays};
 use crate::texts::{ACK, ASKED, BOB, BYE, CALLER, CANCEL, INVITE, OPTIONS, Request};
-use proxy_service::State;
+use proxy_service::ServiceState;
 
 /// A new INVITE, and the ACK of its 503.
 const NEW: Request = Request {
@@ -26,9 +26,9 @@ const DRAINING: &[Moment] = &[
         Turn::Answers(BOB, "INVITE", "one", "SIP/2.0 180 Ringing"),
     ),
     (30, Turn::Skips),
-    (100, Turn::Is(State::Serving)),
+    (100, Turn::Is(ServiceState::Serving)),
     (100, Turn::Stops(60)),
-    (100, Turn::Is(State::Draining)),
+    (100, Turn::Is(ServiceState::Draining)),
     (110, Turn::Asks(NEW)),
     (
         110,
@@ -61,9 +61,9 @@ const DRAINING: &[Moment] = &[
     (200, Turn::Asks(ACK)),
     (2_099, Turn::Passes(200)),
     (2_099, Turn::SendsNothing),
-    (2_099, Turn::Is(State::Draining)),
+    (2_099, Turn::Is(ServiceState::Draining)),
     (2_100, Turn::Ticks),
-    (2_100, Turn::Is(State::Ended)),
+    (2_100, Turn::Is(ServiceState::Ended)),
     (2_100, Turn::Keeps(2, 2)),
 ];
 
@@ -81,9 +81,9 @@ const NOTHING_OPEN: &[Moment] = &[
     (2_499, Turn::Passes(500)),
     (2_499, Turn::Asks(ASKED)),
     (2_499, Turn::Sends(CALLER, "SIP/2.0 503 ", "asked")),
-    (2_499, Turn::Is(State::Draining)),
+    (2_499, Turn::Is(ServiceState::Draining)),
     (2_500, Turn::Ticks),
-    (2_500, Turn::Is(State::Ended)),
+    (2_500, Turn::Is(ServiceState::Ended)),
 ];
 
 /// A call rings: it ends when SECONDS are over, not before and not later. Nobody is told, and the call is written down as open.
@@ -102,9 +102,9 @@ const RINGING: &[Moment] = &[
     (1_050, Turn::Ticks),
     (1_050, Turn::Sleeps(1_100)),
     (1_099, Turn::Ticks),
-    (1_099, Turn::Is(State::Draining)),
+    (1_099, Turn::Is(ServiceState::Draining)),
     (1_100, Turn::Ticks),
-    (1_100, Turn::Is(State::Ended)),
+    (1_100, Turn::Is(ServiceState::Ended)),
     (1_100, Turn::WritesNothing),
     (1_100, Turn::Leaves),
     (1_100, Turn::SendsNothing),
@@ -127,7 +127,7 @@ const ANSWERED: &[Moment] = &[
     ),
     (100, Turn::Stops(60)),
     (40_000, Turn::Passes(100)),
-    (40_000, Turn::Is(State::Draining)),
+    (40_000, Turn::Is(ServiceState::Draining)),
     (40_000, Turn::Skips),
     (
         40_050,
@@ -136,7 +136,7 @@ const ANSWERED: &[Moment] = &[
     (40_050, Turn::Sends(CALLER, "SIP/2.0 486 ", "one")),
     (40_050, Turn::Sends(BOB, "ACK ", "one")),
     (40_100, Turn::Ticks),
-    (40_100, Turn::Is(State::Ended)),
+    (40_100, Turn::Is(ServiceState::Ended)),
 ];
 
 /// `stop 0` ends it at once, whatever is open.
@@ -144,7 +144,7 @@ const AT_ONCE: &[Moment] = &[
     (0, Turn::Asks(INVITE)),
     (100, Turn::Stops(0)),
     (100, Turn::Ticks),
-    (100, Turn::Is(State::Ended)),
+    (100, Turn::Is(ServiceState::Ended)),
 ];
 
 /// An OPTIONS request that is out is open, too; a call that only waits for its last timers is not.
@@ -152,13 +152,13 @@ const TIMERS_LEFT: &[Moment] = &[
     (0, Turn::Asks(OPTIONS)),
     (100, Turn::Stops(60)),
     (5_000, Turn::Passes(100)),
-    (5_000, Turn::Is(State::Draining)),
+    (5_000, Turn::Is(ServiceState::Draining)),
     (
         5_050,
         Turn::Answers(BOB, "OPTIONS", "one", "SIP/2.0 404 Not Found"),
     ),
     (5_100, Turn::Ticks),
-    (5_100, Turn::Is(State::Ended)),
+    (5_100, Turn::Is(ServiceState::Ended)),
     (5_100, Turn::Keeps(1, 1)),
     (5_100, Turn::Leaves),
     (
@@ -175,11 +175,11 @@ const SILENT: &[Moment] = &[
     (0, Turn::Asks(OPTIONS)),
     (100, Turn::Stops(60)),
     (31_950, Turn::Passes(100)),
-    (31_950, Turn::Is(State::Draining)),
+    (31_950, Turn::Is(ServiceState::Draining)),
     (31_950, Turn::Skips),
     (32_000, Turn::Ticks),
     (32_000, Turn::Sends(CALLER, "SIP/2.0 408 ", "one")),
-    (32_000, Turn::Is(State::Ended)),
+    (32_000, Turn::Is(ServiceState::Ended)),
 ];
 
 #[test]
@@ -204,12 +204,12 @@ const SHORTER: &[Moment] = &[
     ),
     (100, Turn::Stops(3_600)),
     (10_000, Turn::Passes(100)),
-    (10_000, Turn::Is(State::Draining)),
+    (10_000, Turn::Is(ServiceState::Draining)),
     (10_000, Turn::Stops(1)),
     (10_999, Turn::Passes(10_000)),
-    (10_999, Turn::Is(State::Draining)),
+    (10_999, Turn::Is(ServiceState::Draining)),
     (11_000, Turn::Ticks),
-    (11_000, Turn::Is(State::Ended)),
+    (11_000, Turn::Is(ServiceState::Ended)),
 ];
 
 const HASTENED: &[Moment] = &[
@@ -218,7 +218,7 @@ const HASTENED: &[Moment] = &[
     (100, Turn::Ticks),
     (150, Turn::Stops(0)),
     (150, Turn::Ticks),
-    (150, Turn::Is(State::Ended)),
+    (150, Turn::Is(ServiceState::Ended)),
 ];
 
 const LONGER: &[Moment] = &[
@@ -231,9 +231,9 @@ const LONGER: &[Moment] = &[
     (1_000, Turn::Passes(100)),
     (1_000, Turn::Stops(10)),
     (10_999, Turn::Passes(1_000)),
-    (10_999, Turn::Is(State::Draining)),
+    (10_999, Turn::Is(ServiceState::Draining)),
     (11_000, Turn::Ticks),
-    (11_000, Turn::Is(State::Ended)),
+    (11_000, Turn::Is(ServiceState::Ended)),
 ];
 
 #[test]
@@ -261,7 +261,7 @@ const RECORDED: &[Moment] = &[
     (1_000, Turn::Answers(BOB, "INVITE", "one", "SIP/2.0 200 OK")),
     (2_000, Turn::Stops(60)),
     (32_999, Turn::Passes(2_000)),
-    (32_999, Turn::Is(State::Draining)),
+    (32_999, Turn::Is(ServiceState::Draining)),
     (32_999, Turn::Skips),
     (32_999, Turn::Asks(SUCCESS_ACK)),
     (
@@ -269,7 +269,7 @@ const RECORDED: &[Moment] = &[
         Turn::Sends(BOB, "ACK sip:bob@192.0.2.4 SIP/2.0\r\n", "acknowledged"),
     ),
     (33_000, Turn::Ticks),
-    (33_000, Turn::Is(State::Ended)),
+    (33_000, Turn::Is(ServiceState::Ended)),
 ];
 
 /// Within SECONDS.
@@ -278,9 +278,9 @@ const RECORDED_SHORTLY: &[Moment] = &[
     (1_000, Turn::Answers(BOB, "INVITE", "one", "SIP/2.0 200 OK")),
     (2_000, Turn::Stops(5)),
     (6_999, Turn::Passes(2_000)),
-    (6_999, Turn::Is(State::Draining)),
+    (6_999, Turn::Is(ServiceState::Draining)),
     (7_000, Turn::Ticks),
-    (7_000, Turn::Is(State::Ended)),
+    (7_000, Turn::Is(ServiceState::Ended)),
 ];
 
 /// A call that failed needs no such time, nor does one whose dialog goes past the proxy.
@@ -292,9 +292,9 @@ const FAILED: &[Moment] = &[
     ),
     (2_000, Turn::Stops(60)),
     (3_999, Turn::Passes(2_000)),
-    (3_999, Turn::Is(State::Draining)),
+    (3_999, Turn::Is(ServiceState::Draining)),
     (4_000, Turn::Ticks),
-    (4_000, Turn::Is(State::Ended)),
+    (4_000, Turn::Is(ServiceState::Ended)),
 ];
 
 const NOT_RECORDED: &[Moment] = &[
@@ -302,9 +302,9 @@ const NOT_RECORDED: &[Moment] = &[
     (1_000, Turn::Answers(BOB, "INVITE", "one", "SIP/2.0 200 OK")),
     (2_000, Turn::Stops(60)),
     (3_999, Turn::Passes(2_000)),
-    (3_999, Turn::Is(State::Draining)),
+    (3_999, Turn::Is(ServiceState::Draining)),
     (4_000, Turn::Ticks),
-    (4_000, Turn::Is(State::Ended)),
+    (4_000, Turn::Is(ServiceState::Ended)),
 ];
 
 #[test]

@@ -6,7 +6,7 @@ use crate::texts::{
 };
 use daemon_parts::{DaemonFault, Identity, read_text};
 use proxy_dispatch::Received;
-use proxy_service::{Service, State, Terms};
+use proxy_service::{RunSettings, Service, ServiceState};
 use sip_uri::Hop;
 use std::alloc::{Allocator, Global};
 use std::process::Abort;
@@ -53,7 +53,7 @@ pub enum Turn {
     /// What is left is written down, as at the end.
     Leaves,
     /// The service stands so.
-    Is(State),
+    Is(ServiceState),
     /// The timer's thread would sleep until this moment.
     Sleeps(u64),
     /// This configuration is read anew, and this comes of it.
@@ -100,7 +100,7 @@ pub fn service_over<A: Allocator + Copy>(
     served: Served,
 ) -> Option<Service<A>> {
     let setup = read_text(alloc, text, NUMBER).ok()?;
-    let terms = Terms {
+    let terms = RunSettings {
         identity: Identity::of(&setup),
         number: NUMBER,
         records: served.records,

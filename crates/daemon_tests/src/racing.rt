@@ -8,7 +8,7 @@ use crate::played::{PLAIN, service_of};
 use crate::texts::{BOB, CALLER, CONFIGURATION, INVITE, answer_text, request_text};
 use fork_call::{Datagram, Port};
 use proxy_dispatch::Received;
-use proxy_service::{Service, State};
+use proxy_service::{Service, ServiceState};
 use sip_uri::Hop;
 use std::alloc::{Allocator, Global};
 use std::sync::Wait;
@@ -68,7 +68,7 @@ impl Raced for Shared {
     }
 
     fn has_ended(&self) -> bool {
-        self.service.is_in(State::Ended)
+        self.service.is_in(ServiceState::Ended)
     }
 }
 

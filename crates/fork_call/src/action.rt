@@ -97,7 +97,7 @@ impl Action {
         ensures err { OnErr result (state.new ≡ state.old) }
     {
         match self {
-            Action::SendAnswer => state.send_owed(now),
+            Action::SendAnswer => state.send_next_response(now),
             Action::TickServer => state.tick_server(now),
             Action::SendRequest(n) => Ok(Step::Send(state.send_request(n, now)?)),
             Action::SendCancel(n) => Ok(Step::Send(state.send_cancel(n, now)?)),

@@ -23,9 +23,9 @@ use crate::action::Action;
 use crate::fault::TakeFault;
 use crate::pending_call::PendingCall;
 use crate::schedule::{BranchTimers, earlier, is_due};
-use crate::taking::{give, room_for, row_of as row_to};
+use crate::taking::{give, room_for, row_of_transaction as row_to};
 use crate::timing::time_step;
-use call_branch::status_of;
+use call_branch::response_status;
 use call_laws::{calls_send_right, what_is_sent_is_right};
 use call_model::{Cause, Step, Taken, calls_stay_sound};
 use call_routing::{MatchedTransaction, OpeningRequest, match_response, match_transaction};
@@ -45,7 +45,7 @@ use std::alloc::{AllocError, Allocator, Global};
 use std::marker::Model;
 
 /// The row of the branch whose datagram has this cause; None where the datagram is for the caller.
-fn row_of(cause: Cause) -> Option<u16>
+fn row_of_cause(cause: Cause) -> Option<u16>
     ensures { result ≡ row_of_cause cause }
 {
     match cause {
@@ -183,7 +183,7 @@ impl<A: Allocator + Clone> Call<A> {
         others_stay_open();
         replies_list_all_that_became();
         let alloc = self.alloc.clone()?;
-        self.schedule.pad(room_for(status_of(&message)))?;
+        self.schedule.pad(room_for(response_status(&message)))?;
         let taken = give(&mut self.state, alloc, to, message, source, now);
         let _rows = self.state.book().context().count();
         time_step(&mut self.schedule, &self.state, row_to(to), at);
@@ -285,7 +285,7 @@ impl<A: Allocator + Clone> Call<A> {
         others_stay_open();
         replies_list_all_that_became();
         self.state.failed(cause, now)?;
-        time_step(&mut self.schedule, &self.state, row_of(cause), at);
+        time_step(&mut self.schedule, &self.state, row_of_cause(cause), at);
         Ok(())
     }
 

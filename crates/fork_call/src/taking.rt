@@ -13,7 +13,7 @@ ghost use Rattle.sip_route.specs.RequestKey.{request_key};
 ghost use Rattle.fork_call.specs.inner.Timing.{room_for, row_of_recipient};
 
 use crate::fault::TakeFault;
-use call_branch::{is_redirection, status_of};
+use call_branch::{is_redirection, response_status};
 use call_model::Taken;
 use call_routing::MatchedTransaction;
 use call_state::{CallState, PostFault};
@@ -37,7 +37,7 @@ pub(crate) fn room_for(status: u16) -> u16
 }
 
 /// The row that a message comes to.
-pub(crate) fn row_of(to: MatchedTransaction) -> Option<u16>
+pub(crate) fn row_of_transaction(to: MatchedTransaction) -> Option<u16>
     ensures { result ≡ row_of_recipient (seen_recipient to) }
 {
     match to {
@@ -124,7 +124,7 @@ pub(crate) fn give<A: Allocator + Clone>(
     ensures refused { IfErr result (λ fault. fault ≢ TakeFault.Stray) }
     ensures err { OnErr result (state.new ≡ state.old) }
 {
-    let status = status_of(&message);
+    let status = response_status(&message);
     match to {
         MatchedTransaction::Server => match state.take_request(now) {
             Ok(()) => Ok(Taken::Absorbed),

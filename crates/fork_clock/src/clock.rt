@@ -39,18 +39,18 @@ impl Epoch {
 /// The time as one thread reads it: it never falls, whatever the clock says. Each thread has its own, made from the one epoch
 /// of the program.
 #[derive(Clone, Copy)]
-pub struct Watch {
+pub struct ThreadClock {
     epoch: Epoch,
     /// The last time that was read, in microseconds since the epoch.
     last: u64,
 }
 
-impl Watch {
+impl ThreadClock {
     /// A watch that was not read yet: the last time that it showed is 0.
-    pub fn new(epoch: Epoch) -> Watch
+    pub fn new(epoch: Epoch) -> ThreadClock
         ensures { result.last ≡ 0 }
     {
-        Watch { epoch, last: 0 }
+        ThreadClock { epoch, last: 0 }
     }
 
     /// How many microseconds have passed since the epoch, and no fewer than at the reading before; where the clock cannot be

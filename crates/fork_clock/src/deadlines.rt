@@ -10,13 +10,13 @@ use std::collections::{BTreeMap, BinaryHeap};
 use std::marker::Model;
 
 /// A deadline, and the number whose it is. In a heap the earliest comes first.
-type Entry = Reverse<(u64, u64)>;
+type Deadline = Reverse<(u64, u64)>;
 
 /// For each number its deadline, if it has one. Each deadline stands in the heap with its number; so may others, which
 /// numbers had once and have no longer. A number without a deadline takes no memory but for such entries.
 #[derive(Drop)]
 pub(crate) struct DeadlineHeap<A: Allocator> {
-    heap: BinaryHeap<Entry, A>,
+    heap: BinaryHeap<Deadline, A>,
     deadlines: BTreeMap<u64, u64, A>,
 }
 
@@ -42,7 +42,7 @@ fn counts<A: Allocator>(deadlines: &BTreeMap<u64, u64, A>, number: u64, deadline
 
 /// The earliest deadline of all, with a number whose it is; entries that count no longer and stand before it go.
 fn first<A: Allocator>(
-    heap: &mut BinaryHeap<Entry, A>,
+    heap: &mut BinaryHeap<Deadline, A>,
     deadlines: &BTreeMap<u64, u64, A>,
 ) -> Option<(u64, u64)>
     requires heap { IsHeap entry_order (heap_items heap.old) }
@@ -65,7 +65,7 @@ fn first<A: Allocator>(
 
 /// Takes a number whose deadline has come, the earliest of all; entries that count no longer go with it.
 fn take_first_due<A: Allocator>(
-    heap: &mut BinaryHeap<Entry, A>,
+    heap: &mut BinaryHeap<Deadline, A>,
     deadlines: &mut BTreeMap<u64, u64, A>,
     now: u64,
 ) -> Option<u64>
@@ -102,7 +102,7 @@ fn set<A: Allocator + Clone>(
 
 /// Lists a deadline, and gives it to its number.
 fn list<A: Allocator + Clone>(
-    heap: &mut BinaryHeap<Entry, A>,
+    heap: &mut BinaryHeap<Deadline, A>,
     deadlines: &mut BTreeMap<u64, u64, A>,
     number: u64,
     deadline: u64,

@@ -6,5 +6,5 @@ mod clock;
 mod deadlines;
 mod schedule;
 
-pub use clock::{Epoch, Watch};
+pub use clock::{Epoch, ThreadClock};
 pub use schedule::Schedule;

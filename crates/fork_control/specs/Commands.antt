@@ -1,8 +1,8 @@
 -- What a line at the control socket says.
 use Rattle.std.specs.Prelude.{◌≡◌, ◌↔◌, ◌++◌, ◌⊎◌, ◌-◌, ◌^◌, ℕ, Some, List, codes}
 use Rattle.sip_lex.specs.Number.{plain_number_within}
-use Rattle.fork_control.specs.declared.command.Command.{Command}
-use Rattle.fork_control.specs.declared.command.Command.TheVariants.{Stop, Reload, Stats, Calls, Call, Metrics}
+use Rattle.fork_control.specs.declared.command.ControlCommand.{ControlCommand}
+use Rattle.fork_control.specs.declared.command.ControlCommand.TheVariants.{Stop, Reload, Stats, Calls, Call, Metrics}
 
 -- a number within this limit stands behind this text
 abbrev pub IsNumbered : List ℕ → ℕ → List ℕ → ℕ → Type 0
@@ -29,7 +29,7 @@ abbrev pub IsGet : List ℕ → Type 0
 IsGet line = (rest : List ℕ) × (line ≡ codes "GET " ++ rest)
 
 -- the line says this command, and no other
-pub record Says (line : List ℕ) (command : Command) : Type 0 where
+pub record Says (line : List ℕ) (command : ControlCommand) : Type 0 where
   pub reload : (command ≡ Reload) ↔ (line ≡ codes "reload")
   pub stats : (command ≡ Stats) ↔ (line ≡ codes "stats")
   pub get : (command ≡ Metrics) ↔ IsGet line

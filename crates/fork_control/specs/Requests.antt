@@ -1,7 +1,7 @@
 -- What a client of the control socket has written.
 use Rattle.std.specs.Prelude.{◌≡◌, ◌==◌, ◌&&◌, ◌||◌, ◌++◌, ◌-◌, ◌≤◌, ℕ, Bool, true, false, List, [], ◌∷◌, Option, Some, None, if◌then◌else◌, bytes_eq, drop, length, nat_le, nat_lt, position, take}
-use Rattle.fork_control.specs.declared.command.Command.{Command}
-use Rattle.fork_control.specs.declared.command.Command.TheVariants.{Unknown}
+use Rattle.fork_control.specs.declared.command.ControlCommand.{ControlCommand}
+use Rattle.fork_control.specs.declared.command.ControlCommand.TheVariants.{Unknown}
 use Rattle.fork_control.specs.Commands.{Says}
 
 -- the front of what was written, and whether its sender has closed its side
@@ -30,12 +30,12 @@ abbrev pub line_of : RequestState → Option (List ℕ)
 line_of request = line_at (line_feed_of request.written) request
 
 -- a line that is not whole when its time is over, or is longer than it may be, says nothing that is known
-abbrev pub IsSaid : Option (List ℕ) → RequestState → (late : Bool) → Command → Type 0
+abbrev pub IsSaid : Option (List ℕ) → RequestState → (late : Bool) → ControlCommand → Type 0
 IsSaid (Some line) request late command = Says line command
 IsSaid None request late command = (late || nat_lt 256 (length request.written) ≡ true) × (command ≡ Unknown)
 
 -- this is asked
-abbrev pub IsAsked : RequestState → (late : Bool) → Command → Type 0
+abbrev pub IsAsked : RequestState → (late : Bool) → ControlCommand → Type 0
 IsAsked request late command = IsSaid (line_of request) request late command
 
 -- more of the line may come

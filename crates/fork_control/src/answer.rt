@@ -6,14 +6,14 @@ use std::marker::Model;
 
 /// What is left to be written to a client: of a text that is always the same, and behind it of one that was made for it.
 #[derive(Drop)]
-pub struct Answer {
+pub struct ClientAnswer {
     front: &'static [u8],
     text: Vec<u8>,
     /// How many bytes of both are written.
     written: usize,
 }
 
-impl Model for Answer {
+impl Model for ClientAnswer {
     ghost use Rattle.std.specs.Prelude.{ℕ, ◌++◌, List, drop};
 
     ghost Value = { List ℕ };
@@ -28,19 +28,19 @@ fn behind_first(bytes: &[u8], count: usize) -> &[u8]
     bytes.get(count..).unwrap_or(b"")
 }
 
-impl Answer {
+impl ClientAnswer {
     /// An answer that is always the same.
-    pub fn fixed(alloc: Global, front: &'static [u8]) -> Answer
+    pub fn fixed(alloc: Global, front: &'static [u8]) -> ClientAnswer
         ensures { result ≡ front.now }
     {
-        Answer::new(front, Vec::new(alloc))
+        ClientAnswer::new(front, Vec::new(alloc))
     }
 
     /// An answer that begins with a text that is always the same.
-    pub fn new(front: &'static [u8], text: Vec<u8>) -> Answer
+    pub fn new(front: &'static [u8], text: Vec<u8>) -> ClientAnswer
         ensures { result ≡ front.now ++ text.items }
     {
-        Answer {
+        ClientAnswer {
             front,
             text,
             written: 0,

@@ -2,20 +2,20 @@
 ghost use Rattle.std.specs.Prelude.{◌≡◌, ℕ, Bool, false, true, List, [], ◌++◌, None, Some, IfNone, IfSome, IsTrue, ◌↔◌, drop, option_map};
 ghost use Rattle.fork_control.specs.Clients.{IsRead, IsTurn, is_over, left_of, rest_of, turn_behind_answer};
 ghost use Rattle.fork_control.specs.Requests.{fed};
-ghost use Rattle.fork_control.specs.declared.client.Turn.{Turn};
+ghost use Rattle.fork_control.specs.declared.client.ClientTurn.{ClientTurn};
 
-use crate::answer::Answer;
-use crate::command::Command;
-use crate::request::Request;
+use crate::answer::ClientAnswer;
+use crate::command::ControlCommand;
+use crate::request::ControlRequest;
 use std::marker::Model;
 
 /// What is to be done for a client.
 #[derive(Clone, Copy, Debug, PartialEq, Eq)]
-pub enum Turn {
+pub enum ClientTurn {
     /// To wait for what it writes.
     Read,
     /// To do what it asks, and to answer.
-    Obey(Command),
+    Obey(ControlCommand),
     /// To write what is left of its answer.
     Write,
     /// To keep it until the end.
@@ -28,19 +28,19 @@ pub enum Turn {
 /// A client that waits for the end has no such moment.
 #[derive(Drop)]
 pub struct Client {
-    request: Request,
-    answer: Option<Answer>,
+    request: ControlRequest,
+    answer: Option<ClientAnswer>,
     deadline: Option<u64>,
 }
 
 /// What is to be done for a client whose answer is written, where its time is not over.
-fn turn_behind_answer(deadline: Option<u64>, is_closed: bool) -> Turn
+fn turn_behind_answer(deadline: Option<u64>, is_closed: bool) -> ClientTurn
     ensures { result ≡ turn_behind_answer deadline is_closed }
 {
     match deadline {
-        None => Turn::Wait,
-        Some(_) if is_closed => Turn::Close,
-        Some(_) => Turn::Read,
+        None => ClientTurn::Wait,
+        Some(_) if is_closed => ClientTurn::Close,
+        Some(_) => ClientTurn::Read,
     }
 }
 
@@ -58,7 +58,7 @@ impl Client {
         ensures { result ≡ record { request = record { written = []; closed = false }; answer = None; deadline = Some deadline } }
     {
         Client {
-            request: Request::new(),
+            request: ControlRequest::new(),
             answer: None,
             deadline: Some(deadline),
         }
@@ -96,7 +96,7 @@ impl Client {
     }
 
     /// It is answered so, and has until this moment to read that; where there is none it then waits for the end.
-    pub fn reply(&mut self, answer: Answer, deadline: Option<u64>)
+    pub fn reply(&mut self, answer: ClientAnswer, deadline: Option<u64>)
         ensures { self.new ≡ record { request = self.old.request; answer = Some answer; deadline = deadline } }
     {
         self.answer = Some(answer);
@@ -147,17 +147,17 @@ impl Client {
     }
 
     /// What is to be done for it at this moment.
-    pub fn turn(&self, now: u64) -> Turn
+    pub fn turn(&self, now: u64) -> ClientTurn
         ensures { IsTurn self.now now result }
     {
         let is_late = self.is_late(now);
         match &self.answer {
             None => match self.request.command(is_late) {
-                Some(command) => Turn::Obey(command),
-                None => Turn::Read,
+                Some(command) => ClientTurn::Obey(command),
+                None => ClientTurn::Read,
             },
-            Some(_) if is_late => Turn::Close,
-            Some(answer) if !answer.is_written() => Turn::Write,
+            Some(_) if is_late => ClientTurn::Close,
+            Some(answer) if !answer.is_written() => ClientTurn::Write,
             Some(_) => turn_behind_answer(self.deadline, self.request.is_closed()),
         }
     }
@@ -165,11 +165,11 @@ impl Client {
     /// For how many milliseconds there is nothing to be done for it at this moment but what its turn waits for; None where there is no
     /// limit.
     pub fn rest(&self, now: u64) -> Option<u64>
-        ensures { (turn : Turn) × IsTurn self.now now turn × (result ≡ rest_of turn self.now now) }
+        ensures { (turn : ClientTurn) × IsTurn self.now now turn × (result ≡ rest_of turn self.now now) }
     {
         match self.turn(now) {
-            Turn::Obey(_) | Turn::Close => Some(0),
-            Turn::Read | Turn::Write | Turn::Wait => {
+            ClientTurn::Obey(_) | ClientTurn::Close => Some(0),
+            ClientTurn::Read | ClientTurn::Write | ClientTurn::Wait => {
                 self.deadline.map(|deadline| deadline.saturating_sub(now))
             }
         }

@@ -1,7 +1,7 @@
 //! What a line at the control socket says.
 ghost use Rattle.std.specs.Prelude.{◌≡◌, ◌≢◌, ◌↔◌, ◌++◌, ℕ, List, codes, IfSome, IfNone};
 ghost use Rattle.fork_control.specs.Commands.{IsCall, IsCalls, IsCallsFrom, IsGet, IsNumbered, IsStop};
-ghost use Rattle.fork_control.specs.declared.command.Command.TheVariants as command;
+ghost use Rattle.fork_control.specs.declared.command.ControlCommand.TheVariants as command;
 
 use sip_lex::read_plain_number;
 
@@ -10,7 +10,7 @@ const MOST_SECONDS: u64 = 86_400;
 
 /// What a line says.
 #[derive(Clone, Copy, Debug, PartialEq, Eq)]
-pub enum Command {
+pub enum ControlCommand {
     /// To end once no call is open any more, or after so many seconds.
     Stop(u64),
     /// To read the configuration anew.
@@ -44,26 +44,26 @@ fn number_behind(line: &[u8], front: &[u8], limit: u64) -> Option<u64>
 }
 
 /// Reads a command that has a number behind its word.
-fn read_numbered(line: &[u8]) -> Command
+fn read_numbered(line: &[u8]) -> ControlCommand
     ensures stop { (seconds : ℕ) → (result ≡ command.Stop seconds) ↔ IsStop line.now seconds }
     ensures calls { (from : ℕ) → (result ≡ command.Calls from) ↔ IsCallsFrom line.now from }
     ensures call { (number : ℕ) → (result ≡ command.Call number) ↔ IsCall line.now number }
     ensures other { (result ≢ command.Reload) × (result ≢ command.Stats) × (result ≢ command.Metrics) }
 {
     if let Some(seconds) = number_behind(line, b"stop ", MOST_SECONDS) {
-        return Command::Stop(seconds);
+        return ControlCommand::Stop(seconds);
     }
     if let Some(from) = number_behind(line, b"calls ", u64::MAX) {
-        return Command::Calls(from);
+        return ControlCommand::Calls(from);
     }
     match number_behind(line, b"call ", u64::MAX) {
-        Some(number) => Command::Call(number),
-        None => Command::Unknown,
+        Some(number) => ControlCommand::Call(number),
+        None => ControlCommand::Unknown,
     }
 }
 
 /// Reads a command that has something behind its word.
-fn read_long(line: &[u8]) -> Command
+fn read_long(line: &[u8]) -> ControlCommand
     ensures get { (result ≡ command.Metrics) ↔ IsGet line.now }
     ensures stop { (seconds : ℕ) → (result ≡ command.Stop seconds) ↔ IsStop line.now seconds }
     ensures calls { (from : ℕ) → (result ≡ command.Calls from) ↔ IsCallsFrom line.now from }
@@ -71,14 +71,14 @@ fn read_long(line: &[u8]) -> Command
     ensures other { (result ≢ command.Reload) × (result ≢ command.Stats) }
 {
     if behind(line, b"GET ").is_some() {
-        return Command::Metrics;
+        return ControlCommand::Metrics;
     }
     read_numbered(line)
 }
 
 /// Reads a line without its end: `stop SECONDS` in decimal without a leading zero, of a day at most; `reload`; `stats`; `calls`, or `calls
 /// NUMBER`, from which number on they are told of; `call NUMBER`; or the first line of a GET of HTTP. `Unknown` for any other text.
-pub fn read_command(line: &[u8]) -> Command
+pub fn read_command(line: &[u8]) -> ControlCommand
     ensures reload { (result ≡ command.Reload) ↔ (line.now ≡ codes "reload") }
     ensures stats { (result ≡ command.Stats) ↔ (line.now ≡ codes "stats") }
     ensures get { (result ≡ command.Metrics) ↔ IsGet line.now }
@@ -87,13 +87,13 @@ pub fn read_command(line: &[u8]) -> Command
     ensures call { (number : ℕ) → (result ≡ command.Call number) ↔ IsCall line.now number }
 {
     if line == b"reload".as_slice() {
-        return Command::Reload;
+        return ControlCommand::Reload;
     }
     if line == b"stats".as_slice() {
-        return Command::Stats;
+        return ControlCommand::Stats;
     }
     if line == b"calls".as_slice() {
-        return Command::Calls(0);
+        return ControlCommand::Calls(0);
     }
     read_long(line)
 }

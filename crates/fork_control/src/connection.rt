@@ -1,6 +1,6 @@
 //! A client of the control socket, and its connection.
-use crate::answer::Answer;
-use crate::client::{Client, Turn};
+use crate::answer::ClientAnswer;
+use crate::client::{Client, ClientTurn};
 use libc::net;
 use socket_poll::Polled;
 use std::io;
@@ -44,7 +44,7 @@ impl Connection {
     }
 
     /// Answers it, with this moment as the end of its time, if it does not wait for the end.
-    pub(crate) fn reply(&mut self, answer: Answer, deadline: Option<u64>) {
+    pub(crate) fn reply(&mut self, answer: ClientAnswer, deadline: Option<u64>) {
         self.client.reply(answer, deadline);
     }
 
@@ -84,9 +84,9 @@ impl Polled for Connection {
 
     fn events(&self) -> i16 {
         match self.client.turn(0) {
-            Turn::Read => net::POLLIN,
-            Turn::Write => net::POLLOUT,
-            Turn::Obey(_) | Turn::Wait | Turn::Close => 0,
+            ClientTurn::Read => net::POLLIN,
+            ClientTurn::Write => net::POLLOUT,
+            ClientTurn::Obey(_) | ClientTurn::Wait | ClientTurn::Close => 0,
         }
     }
 

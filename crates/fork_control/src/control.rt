@@ -3,7 +3,7 @@ use std::alloc::Global;
 use std::io;
 
 /// What is controlled.
-pub trait Controlled {
+pub trait ControlHandler {
     /// Begins the end: it comes once nothing is open any more, or after so many seconds.
     fn stop(&self, seconds: u64);
 

@@ -10,10 +10,10 @@ mod listening;
 mod request;
 mod telling;
 
-pub use answer::Answer;
-pub use client::{Client, Turn};
-pub use command::{Command, read_command};
-pub use control::Controlled;
+pub use answer::ClientAnswer;
+pub use client::{Client, ClientTurn};
+pub use command::{ControlCommand, read_command};
+pub use control::ControlHandler;
 pub use listening::listen;
-pub use request::Request;
+pub use request::ControlRequest;
 pub use telling::tell;

@@ -1,10 +1,10 @@
 //! The control socket itself, a file of the system's: who may write to the file may control the program.
-use crate::answer::Answer;
-use crate::client::Turn;
-use crate::command::Command;
+use crate::answer::ClientAnswer;
+use crate::client::ClientTurn;
+use crate::command::ControlCommand;
 use crate::connection::Connection;
-use crate::control::Controlled;
-use socket_poll::{Came, MOST_CLIENTS, Polled, is_gone, place_of_first, wait_for};
+use crate::control::ControlHandler;
+use socket_poll::{MOST_CLIENTS, Polled, PolledEvents, is_gone, place_of_first, wait_for};
 use std::alloc::Global;
 use std::os::unix::net::UnixListener;
 use std::time::{Clock, Duration, Instant};
@@ -25,14 +25,14 @@ const HEAD: &[u8] =
 
 /// What answers a command, and whether its client then waits for the end.
 #[derive(Drop)]
-struct Reply {
-    answer: Answer,
+struct ControlReply {
+    answer: ClientAnswer,
     waits: bool,
 }
 
 /// What clients are answered by.
 #[derive(Drop)]
-struct Desk<'a, R, C> {
+struct ControlClients<'a, R, C> {
     rt: &'a R,
     alloc: Global,
     controlled: &'a C,
@@ -54,7 +54,7 @@ fn write_left(connections: &mut [Connection]) {
     }
 }
 
-impl<'a, R: Clock, C: Controlled> Desk<'a, R, C> {
+impl<'a, R: Clock, C: ControlHandler> ControlClients<'a, R, C> {
     /// The time since the beginning, in milliseconds. Where the clock cannot be read, the time of every client is over.
     fn now(&self) -> u64 {
         match self.began.elapsed(self.rt) {
@@ -78,39 +78,39 @@ impl<'a, R: Clock, C: Controlled> Desk<'a, R, C> {
     /// # Errors
     ///
     /// Want of memory for the answer.
-    fn obey(&self, command: Command, has_room: bool) -> io::Result<Reply> {
+    fn obey(&self, command: ControlCommand, has_room: bool) -> io::Result<ControlReply> {
         let answer = match command {
-            Command::Stop(seconds) => {
+            ControlCommand::Stop(seconds) => {
                 self.controlled.stop(seconds);
                 let answer = if has_room {
-                    Answer::fixed(self.alloc, b"stopping\n")
+                    ClientAnswer::fixed(self.alloc, b"stopping\n")
                 } else {
-                    Answer::fixed(
+                    ClientAnswer::fixed(
                         self.alloc,
                         b"busy: it stops, and too many wait for that already\n",
                     )
                 };
-                return Ok(Reply {
+                return Ok(ControlReply {
                     answer,
                     waits: has_room,
                 });
             }
-            Command::Reload => Answer::new(b"", self.controlled.reload()?.into_bytes()),
-            Command::Stats => Answer::new(b"", self.controlled.stats()?.into_bytes()),
-            Command::Calls(from) => Answer::new(b"", self.controlled.calls(from)?),
-            Command::Call(number) => Answer::new(b"", self.controlled.call(number)?),
-            Command::Metrics => Answer::new(HEAD, self.controlled.stats()?.into_bytes()),
-            Command::Unknown => Answer::fixed(self.alloc, b"unknown\n"),
+            ControlCommand::Reload => ClientAnswer::new(b"", self.controlled.reload()?.into_bytes()),
+            ControlCommand::Stats => ClientAnswer::new(b"", self.controlled.stats()?.into_bytes()),
+            ControlCommand::Calls(from) => ClientAnswer::new(b"", self.controlled.calls(from)?),
+            ControlCommand::Call(number) => ClientAnswer::new(b"", self.controlled.call(number)?),
+            ControlCommand::Metrics => ClientAnswer::new(HEAD, self.controlled.stats()?.into_bytes()),
+            ControlCommand::Unknown => ClientAnswer::fixed(self.alloc, b"unknown\n"),
         };
-        Ok(Reply {
+        Ok(ControlReply {
             answer,
             waits: false,
         })
     }
 
     /// Answers what a client asks, and says whether its connection stands: where there is no memory for the answer it is closed.
-    fn answer(&self, connection: &mut Connection, command: Command, has_room: bool) -> bool {
-        let Ok(Reply { answer, waits }) = self.obey(command, has_room) else {
+    fn answer(&self, connection: &mut Connection, command: ControlCommand, has_room: bool) -> bool {
+        let Ok(ControlReply { answer, waits }) = self.obey(command, has_room) else {
             return false;
         };
         let deadline = if waits { None } else { Some(self.deadline()) };
@@ -125,16 +125,16 @@ impl<'a, R: Clock, C: Controlled> Desk<'a, R, C> {
             return false;
         }
         match connection.client().turn(now) {
-            Turn::Read => true,
-            Turn::Obey(command) => self.answer(connection, command, has_room),
-            Turn::Write => came == 0 || connection.write(),
-            Turn::Wait => !is_gone(came),
-            Turn::Close => false,
+            ClientTurn::Read => true,
+            ClientTurn::Obey(command) => self.answer(connection, command, has_room),
+            ClientTurn::Write => came == 0 || connection.write(),
+            ClientTurn::Wait => !is_gone(came),
+            ClientTurn::Close => false,
         }
     }
 
     /// Does what is to be done for each client.
-    fn advance_all(&self, connections: &mut Vec<Connection>, came: &Came) {
+    fn advance_all(&self, connections: &mut Vec<Connection>, came: &PolledEvents) {
         let now = self.now();
         let mut waiting = waiting(connections.as_slice());
         for place in (0..connections.len()).rev() {
@@ -180,7 +180,7 @@ impl<'a, R: Clock, C: Controlled> Desk<'a, R, C> {
 ///
 /// A connection that asked for the end stays open until then, so that whoever asked knows when it has come; of more than 16 such the
 /// others are told `busy`. Where there is no memory for an answer the connection is closed without one.
-pub fn listen<R: Clock, C: Controlled>(
+pub fn listen<R: Clock, C: ControlHandler>(
     rt: &R,
     alloc: Global,
     controlled: &C,
@@ -189,7 +189,7 @@ pub fn listen<R: Clock, C: Controlled>(
     let Ok(began) = Instant::now(rt) else {
         return;
     };
-    let desk = Desk {
+    let desk = ControlClients {
         rt,
         alloc,
         controlled,

@@ -2,7 +2,7 @@
 ghost use Rattle.std.specs.Prelude.{◌≡◌, ◌++◌, ℕ, Bool, false, true, List, [], None, Some, IfNone, IfSome, take};
 ghost use Rattle.fork_control.specs.Requests.{IsAsked, MayGoOn, fed, line_feed_of, line_of, without_return};
 
-use crate::command::{Command, read_command};
+use crate::command::{ControlCommand, read_command};
 use arrayvec::ArrayVec;
 use std::marker::Model;
 
@@ -14,12 +14,12 @@ const MOST_KEPT: usize = 257;
 
 /// What a client has written, and whether it has closed its side. As much is kept as a line of 256 bytes has with its line feed.
 #[derive(Drop)]
-pub struct Request {
+pub struct ControlRequest {
     written: ArrayVec<u8, MOST_KEPT>,
     is_closed: bool,
 }
 
-impl Model for Request {
+impl Model for ControlRequest {
     ghost use Rattle.fork_control.specs.Requests.{RequestState};
 
     ghost Value = { RequestState };
@@ -56,12 +56,12 @@ fn keep(kept: &mut ArrayVec<u8, MOST_KEPT>, bytes: &[u8])
     let _ = kept.try_extend_from_slice(front(bytes, room));
 }
 
-impl Request {
+impl ControlRequest {
     /// Nothing was written yet.
-    pub fn new() -> Request
+    pub fn new() -> ControlRequest
         ensures { result ≡ record { written = []; closed = false } }
     {
-        Request {
+        ControlRequest {
             written: ArrayVec::new(),
             is_closed: false,
         }
@@ -104,13 +104,13 @@ impl Request {
 
     /// What the line says, if it is whole. One of more than 256 bytes says nothing that is known, and neither does one that is not whole
     /// when its time is over: what was cut off may say another thing than was meant. None where more of it may come.
-    pub fn command(&self, is_late: bool) -> Option<Command>
+    pub fn command(&self, is_late: bool) -> Option<ControlCommand>
         ensures some { IfSome result (λ command. IsAsked self.now is_late command) }
         ensures none { IfNone result (MayGoOn self.now is_late) }
     {
         match self.line() {
             Some(line) => Some(read_command(line)),
-            None if is_late || self.written.len() > MOST_BYTES => Some(Command::Unknown),
+            None if is_late || self.written.len() > MOST_BYTES => Some(ControlCommand::Unknown),
             None => None,
         }
     }

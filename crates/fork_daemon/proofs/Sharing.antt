@@ -7,8 +7,8 @@ use Rattle.std.proofs.option.Option.TheSendSync as option
 use Rattle.std.specs.contracts.alloc.Global.{the_row as heap_row}
 use Rattle.std.specs.contracts.impls.GlobalAllocator.TheImpl.{ghosts}
 use Rattle.call_groups.proofs.laws.Crossing as group
-use Rattle.call_groups.proofs.room.Room.TheSendSync as room
-use Rattle.call_groups.specs.contracts.group.Group.{the_row as group_row}
+use Rattle.call_groups.proofs.room.WaitingRoom.TheSendSync as room
+use Rattle.call_groups.specs.contracts.group.CallGroup.{the_row as group_row}
 use Rattle.daemon_parts.proofs.laws.Crossing as parts
 use Rattle.daemon_parts.specs.contracts.socket.Socket as socket
 use Rattle.fork_clock.proofs.laws.Crossing.{epoch_sync}
@@ -16,9 +16,9 @@ use Rattle.fork_daemon.proofs.idle.IdleWorkers.TheSendSync as idle
 use Rattle.fork_daemon.proofs.opening.Listeners.TheSendSync as listeners
 use Rattle.fork_daemon.proofs.packet.Packet.TheSendSync as packet
 use Rattle.fork_daemon.proofs.proxy.Paths.TheSendSync as paths
-use Rattle.fork_daemon.specs.contracts.groups.Groups as groups
+use Rattle.fork_daemon.specs.contracts.groups.CallGroups as groups
 use Rattle.fork_daemon.specs.contracts.packet.Packet.{the_row as packet_row}
-use Rattle.fork_daemon.specs.contracts.proxy.Proxy as proxy
+use Rattle.fork_daemon.specs.contracts.proxy.ServiceProxy as proxy
 use Rattle.fork_daemon.specs.contracts.serving.Server as server
 use Rattle.proxy_service.proofs.laws.Crossing.{service_sync}
 use Rattle.sip_uri.proofs.hop.Hop.TheSendSync as hop

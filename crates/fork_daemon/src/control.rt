@@ -2,11 +2,11 @@
 ghost use Rattle.std.specs.Prelude.{IfErr};
 ghost use Rattle.daemon_parts.specs.Faults.{IsConfigurationFault};
 
-use crate::proxy::Proxy;
+use crate::proxy::ServiceProxy;
 use daemon_parts::{DaemonFault, ProxyFiles, configuration_fault, resident_bytes};
-use fork_control::Controlled;
-use metrics_page::Counted;
-use proxy_service::State;
+use fork_control::ControlHandler;
+use metrics_page::MetricsSource;
+use proxy_service::ServiceState;
 use std::alloc::Global;
 use std::io;
 use std::io::ErrorKind;
@@ -20,7 +20,7 @@ const MOST_TEXT: usize = 1_048_576;
 #[derive(Drop)]
 pub(crate) struct Control<'a, R> {
     pub(crate) rt: &'a R,
-    pub(crate) proxy: &'a Proxy,
+    pub(crate) proxy: &'a ServiceProxy,
 }
 
 /// The text of a configuration's file; of one that is too long as much as tells so.
@@ -66,7 +66,7 @@ impl<'a, R: Wait + Clock + ProxyFiles> Control<'a, R> {
     }
 }
 
-impl<'a, R: Wait + Clock + ProxyFiles> Controlled for Control<'a, R> {
+impl<'a, R: Wait + Clock + ProxyFiles> ControlHandler for Control<'a, R> {
     fn stop(&self, seconds: u64) {
         self.proxy
             .service
@@ -105,16 +105,16 @@ impl<'a, R: Wait + Clock + ProxyFiles> Controlled for Control<'a, R> {
     }
 
     fn has_ended(&self) -> bool {
-        self.proxy.service.is_in(State::Ended)
+        self.proxy.service.is_in(ServiceState::Ended)
     }
 }
 
-impl<'a, R: Wait + Clock + ProxyFiles> Counted for Control<'a, R> {
+impl<'a, R: Wait + Clock + ProxyFiles> MetricsSource for Control<'a, R> {
     fn counters(&self) -> io::Result<Vec<u8>> {
         self.text()
     }
 
     fn has_ended(&self) -> bool {
-        self.proxy.service.is_in(State::Ended)
+        self.proxy.service.is_in(ServiceState::Ended)
     }
 }

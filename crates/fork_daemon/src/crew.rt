@@ -14,7 +14,7 @@ use std::thread::{Promise, PromisedHandle, Threads};
 use std::time::Clock;
 
 /// What the threads of a proxy do that has such a socket.
-pub(crate) trait Crew<S> {
+pub(crate) trait ServerThreads<S> {
     /// Receives datagrams in this buffer and handles them, until the end. Where a receive failed the proxy ends.
     fn work<R: Wait + Clock>(&self, rt: &R, socket: &S, buffer: Vec<u8>) -> Result<(), DaemonFault>
         ensures { IfErr result IsSystemFault };
@@ -71,7 +71,7 @@ fn join_all<R: Threads>(rt: &R, workers: Vec<Worker>) -> Result<(), DaemonFault>
 }
 
 /// Starts the threads that work, a worker for each buffer, and waits until they have ended. Where one could not be made all end.
-fn work_all<S: Sync, C: Crew<S> + Sync, R: Threads + Wait + Clock + Sync>(
+fn work_all<S: Sync, C: ServerThreads<S> + Sync, R: Threads + Wait + Clock + Sync>(
     rt: &R,
     alloc: Global,
     crew: &C,
@@ -121,7 +121,7 @@ fn socket_is_shared(socket: &Socket)
 }
 
 /// Works until the end, and closes the socket, so that another proxy may have its address.
-fn work_and_close<C: Crew<Socket> + Sync, R: Threads + Wait + Clock + Sync>(
+fn work_and_close<C: ServerThreads<Socket> + Sync, R: Threads + Wait + Clock + Sync>(
     rt: &R,
     alloc: Global,
     crew: &C,
@@ -137,7 +137,7 @@ fn work_and_close<C: Crew<Socket> + Sync, R: Threads + Wait + Clock + Sync>(
 }
 
 /// Works until the end, while others show the counters and write the journal; it returns once they have ended, too.
-fn work_beside<C: Crew<Socket> + Sync, R: Threads + Wait + ProxyFiles + PageSockets + Clock + Sync>(
+fn work_beside<C: ServerThreads<Socket> + Sync, R: Threads + Wait + ProxyFiles + PageSockets + Clock + Sync>(
     rt: &R,
     alloc: Global,
     crew: &C,
@@ -169,7 +169,7 @@ fn work_beside<C: Crew<Socket> + Sync, R: Threads + Wait + ProxyFiles + PageSock
 /// Answers at the control socket while the proxy works, and ends in good order: who waits for the end there hears of it last, when all is
 /// closed and written.
 pub(crate) fn run<
-    C: Crew<Socket> + Sync,
+    C: ServerThreads<Socket> + Sync,
     R: Threads + Wait + ProxyFiles + PageSockets + Clock + Print + Sync,
 >(rt: &R, alloc: Global, crew: &C, socket: Socket, buffers: Vec<Vec<u8>>) -> Result<(), DaemonFault>
     ensures { IfErr result IsSystemFault }

@@ -2,7 +2,7 @@
 ghost use Rattle.std.specs.Prelude.{◌≡◌, true};
 
 use crate::packet::{Packet, weight};
-use call_groups::{Group, Room};
+use call_groups::{CallGroup, WaitingRoom};
 use sip_uri::Hop;
 use std::alloc::{AllocError, Global};
 use std::sync::{Mutex, Wait};
@@ -15,18 +15,18 @@ const MOST_BYTES: u64 = 67_108_864;
 
 /// The groups of calls, each behind its lock.
 #[derive(Drop)]
-pub(crate) struct Groups {
+pub(crate) struct CallGroups {
     /// By number.
-    numbered: Vec<Mutex<Group<Packet>>>,
+    numbered: Vec<Mutex<CallGroup<Packet>>>,
     /// What comes without a Call-ID.
-    other: Mutex<Group<Packet>>,
+    other: Mutex<CallGroup<Packet>>,
     /// The room for all that waits.
-    room: Mutex<Room>,
+    room: Mutex<WaitingRoom>,
 }
 
 /// Whose a datagram is that came.
 #[derive(Clone, Copy, Debug, PartialEq, Eq)]
-pub(crate) enum Handover {
+pub(crate) enum GroupClaim {
     /// No worker was on its group: that of who received it, who is on the group now.
     Entered,
     /// That of the worker that is on its group.
@@ -44,7 +44,7 @@ pub(crate) enum Handover {
 /// Where as many wait as may, or the allocator refuses; then the group is as it was.
 fn hand_over(
     alloc: Global,
-    group: &mut Group<Packet>,
+    group: &mut CallGroup<Packet>,
     bytes: &[u8],
     source: Hop,
 ) -> Result<(), AllocError>
@@ -57,28 +57,28 @@ fn hand_over(
     }
 }
 
-impl Groups {
+impl CallGroups {
     /// Groups that no worker is on.
     ///
     /// # Errors
     ///
     /// Only where the allocator refuses.
-    pub(crate) fn new(alloc: Global) -> Result<Groups, AllocError> {
+    pub(crate) fn new(alloc: Global) -> Result<CallGroups, AllocError> {
         let mut numbered = Vec::new(alloc);
         for _ in 0..NUMBERS {
-            if numbered.push(Mutex::new(Group::new(alloc))).is_err() {
+            if numbered.push(Mutex::new(CallGroup::new(alloc))).is_err() {
                 return Err(AllocError);
             }
         }
-        Ok(Groups {
+        Ok(CallGroups {
             numbered,
-            other: Mutex::new(Group::new(alloc)),
-            room: Mutex::new(Room::new(MOST_BYTES)),
+            other: Mutex::new(CallGroup::new(alloc)),
+            room: Mutex::new(WaitingRoom::new(MOST_BYTES)),
         })
     }
 
     /// The group of this number, or that of what comes without a Call-ID.
-    fn group(&self, number: Option<u8>) -> &Mutex<Group<Packet>> {
+    fn group(&self, number: Option<u8>) -> &Mutex<CallGroup<Packet>> {
         match number {
             Some(number) => self
                 .numbered
@@ -90,26 +90,26 @@ impl Groups {
 
     /// Enters a group with a datagram of it, where no worker is on it; else the datagram is handed over to the worker that is, where there
     /// is room.
-    fn enter_or_hand_over<R: Wait>(
+    fn claim_or_queue<R: Wait>(
         &self,
         rt: &R,
         alloc: Global,
-        group: &mut Group<Packet>,
+        group: &mut CallGroup<Packet>,
         bytes: &[u8],
         source: Hop,
-    ) -> Handover {
+    ) -> GroupClaim {
         if group.enter() {
-            return Handover::Entered;
+            return GroupClaim::Entered;
         }
         let bytes_taken = weight(bytes);
         if group.is_full() || !self.room.lock(rt).take(bytes_taken) {
-            return Handover::CrowdedOut;
+            return GroupClaim::CrowdedOut;
         }
         match hand_over(alloc, group, bytes, source) {
-            Ok(()) => Handover::HandedOver,
+            Ok(()) => GroupClaim::HandedOver,
             Err(AllocError) => {
                 self.room.lock(rt).give_back(bytes_taken);
-                Handover::NoMemory
+                GroupClaim::NoMemory
             }
         }
     }
@@ -122,9 +122,9 @@ impl Groups {
         number: Option<u8>,
         bytes: &[u8],
         source: Hop,
-    ) -> Handover {
+    ) -> GroupClaim {
         let mut group = self.group(number).lock(rt);
-        self.enter_or_hand_over(rt, alloc, &mut *group, bytes, source)
+        self.claim_or_queue(rt, alloc, &mut *group, bytes, source)
     }
 
     /// Takes what waits first in a group. Where nothing does, no worker is on the group any more.

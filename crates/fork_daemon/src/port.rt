@@ -1,5 +1,5 @@
 //! The way of datagrams to the socket.
-use daemon_parts::{Count, DatagramCounts, Sent, SentCounts, Socket};
+use daemon_parts::{Count, DatagramCounts, SendOutcome, SentCounts, Socket};
 use fork_call::{Cause, Datagram, Port};
 use std::alloc::Allocator;
 
@@ -43,15 +43,15 @@ impl<'a> Port for SocketPort<'a> {
 
     fn send<A: Allocator>(&mut self, datagram: &Datagram<A>) -> bool {
         match self.socket.send(datagram.bytes.as_slice(), datagram.to) {
-            Sent::Whole => {
+            SendOutcome::Whole => {
                 count_of(self.sent, datagram.cause).add(1);
                 true
             }
-            Sent::Lost => {
+            SendOutcome::Lost => {
                 self.counts.lost.add(1);
                 false
             }
-            Sent::Refused => {
+            SendOutcome::Refused => {
                 self.counts.unsent.add(1);
                 self.failures = self.failures.saturating_add(1);
                 false

@@ -1,10 +1,10 @@
 //! What the threads of a proxy share.
-use crate::groups::Groups;
+use crate::groups::CallGroups;
 use crate::idle::IdleWorkers;
 use daemon_parts::{Identity, Options, ProxyFiles, most_calls_here};
 use fork_call::Setup;
-use fork_clock::{Epoch, Watch};
-use proxy_service::{Service, Terms};
+use fork_clock::{Epoch, ThreadClock};
+use proxy_service::{RunSettings, Service};
 use sip_uri::Hop;
 use source_limit::SourceLimits;
 use std::alloc::{AllocError, Global};
@@ -22,14 +22,14 @@ pub(crate) struct Paths {
 
 /// How a proxy is started: as these options say, with this number of the run for a configuration that has no line of an instance.
 #[derive(Clone, Copy)]
-pub(crate) struct Start<'a> {
+pub(crate) struct StartOptions<'a> {
     pub(crate) options: Options<'a>,
     pub(crate) number: u32,
 }
 
 /// What the threads of a proxy share, beside the socket.
 #[derive(Drop)]
-pub(crate) struct Proxy {
+pub(crate) struct ServiceProxy {
     pub(crate) alloc: Global,
     pub(crate) service: Service,
     /// The address that it receives at.
@@ -39,7 +39,7 @@ pub(crate) struct Proxy {
     pub(crate) receiving: Mutex<Option<SourceLimits<Global>>>,
     /// Workers that are idle while another one receives.
     pub(crate) idle: IdleWorkers,
-    pub(crate) groups: Groups,
+    pub(crate) groups: CallGroups,
     pub(crate) paths: Paths,
     /// Whether all that will be written to the journal waits for it.
     is_journal_whole: AtomicBool,
@@ -71,11 +71,11 @@ fn paths_of(alloc: Global, options: Options<'_>) -> Result<Paths, AllocError> {
 fn terms_of<R: ProxyFiles>(
     rt: &R,
     alloc: Global,
-    start: Start<'_>,
+    start: StartOptions<'_>,
     setup: &Setup<Global>,
-) -> Terms {
+) -> RunSettings {
     let options = start.options;
-    Terms {
+    RunSettings {
         identity: Identity::of(setup),
         number: start.number,
         records: options.records,
@@ -88,7 +88,7 @@ fn terms_of<R: ProxyFiles>(
     }
 }
 
-impl Proxy {
+impl ServiceProxy {
     /// A proxy without a call, at this address.
     ///
     /// # Errors
@@ -97,15 +97,15 @@ impl Proxy {
     pub(crate) fn new<R: ProxyFiles>(
         rt: &R,
         alloc: Global,
-        start: Start<'_>,
+        start: StartOptions<'_>,
         setup: Setup<Global>,
         own: Hop,
         epoch: Epoch,
-    ) -> Result<Proxy, AllocError> {
+    ) -> Result<ServiceProxy, AllocError> {
         let terms = terms_of(rt, alloc, start, &setup);
-        let groups = Groups::new(alloc)?;
+        let groups = CallGroups::new(alloc)?;
         let paths = paths_of(alloc, start.options)?;
-        Ok(Proxy {
+        Ok(ServiceProxy {
             alloc,
             service: Service::new(alloc, alloc, setup, terms)?,
             own,
@@ -120,7 +120,7 @@ impl Proxy {
 
     /// Milliseconds since the beginning.
     pub(crate) fn millis<R: Clock>(&self, rt: &R) -> u64 {
-        Watch::new(self.epoch).micros(rt) / 1_000
+        ThreadClock::new(self.epoch).micros(rt) / 1_000
     }
 
     /// Whether all that will be written to the journal waits for it.

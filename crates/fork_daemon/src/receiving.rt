@@ -5,11 +5,11 @@ ghost use Rattle.std.specs.Prelude.{◌≤◌, length, IfErr, IfOk, IfSome};
 ghost use Rattle.fork_daemon.specs.Faults.{IsSystemFault};
 
 use crate::admission::admits;
-use crate::groups::Handover;
-use crate::proxy::Proxy;
+use crate::groups::GroupClaim;
+use crate::proxy::ServiceProxy;
 use daemon_parts::{DaemonFault, Socket};
-use fork_clock::Watch;
-use proxy_service::State;
+use fork_clock::ThreadClock;
+use proxy_service::ServiceState;
 use sip_uri::Hop;
 use source_limit::SourceLimits;
 use std::alloc::Global;
@@ -19,7 +19,7 @@ use worker_jobs::group_of;
 
 /// A datagram in a worker's buffer, whose group of calls the worker has entered.
 #[derive(Clone, Copy)]
-pub(crate) struct Entered {
+pub(crate) struct ClaimedDatagram {
     /// How many bytes of the buffer it has.
     pub(crate) count: usize,
     pub(crate) source: Hop,
@@ -27,13 +27,13 @@ pub(crate) struct Entered {
     pub(crate) group: Option<u8>,
 }
 
-impl Proxy {
+impl ServiceProxy {
     /// Counts a datagram that came, and says whether its source may send it now.
     fn admits<R: Clock>(
         &self,
         rt: &R,
         limits: &mut Option<SourceLimits<Global>>,
-        watch: &mut Watch,
+        watch: &mut ThreadClock,
         source: Hop,
     ) -> bool {
         let now = match limits {
@@ -48,13 +48,13 @@ impl Proxy {
     fn enters<R: Wait>(&self, rt: &R, number: Option<u8>, bytes: &[u8], source: Hop) -> bool {
         let counts = &self.service.counts().datagrams;
         match self.groups.enter(rt, self.alloc, number, bytes, source) {
-            Handover::Entered => true,
-            Handover::HandedOver => false,
-            Handover::CrowdedOut => {
+            GroupClaim::Entered => true,
+            GroupClaim::HandedOver => false,
+            GroupClaim::CrowdedOut => {
                 counts.crowded_out.add(1);
                 false
             }
-            Handover::NoMemory => {
+            GroupClaim::NoMemory => {
                 counts.no_memory.add(1);
                 false
             }
@@ -73,14 +73,14 @@ impl Proxy {
         rt: &R,
         socket: &Socket,
         limits: &mut Option<SourceLimits<Global>>,
-        watch: &mut Watch,
+        watch: &mut ThreadClock,
         buffer: &mut [u8],
-    ) -> Result<Option<Entered>, DaemonFault>
+    ) -> Result<Option<ClaimedDatagram>, DaemonFault>
         ensures fits { IfOk result (λ came. IfSome came (λ entered. entered.count ≤ length buffer.new)) }
         ensures fault { IfErr result IsSystemFault }
     {
         let came = socket.receive(buffer)?;
-        if self.service.is_in(State::Ended) {
+        if self.service.is_in(ServiceState::Ended) {
             return Ok(None);
         }
         let Some((count, source)) = came else {
@@ -94,7 +94,7 @@ impl Proxy {
         if !self.enters(rt, group, bytes, source) {
             return Ok(None);
         }
-        Ok(Some(Entered {
+        Ok(Some(ClaimedDatagram {
             count,
             source,
             group,

@@ -8,9 +8,9 @@ ghost use Rattle.daemon_parts.specs.Faults.{most_text, IsConfigurationFault};
 ghost use Rattle.fork_daemon.specs.Faults.{IsServeFault, IsServeFaultOf, IsSystemFault, Spells};
 
 use crate::control::{Control, read_config};
-use crate::crew::{Crew, is_shared, run};
+use crate::crew::{ServerThreads, is_shared, run};
 use crate::opening::{Listeners, bound, buffers_of, open_all};
-use crate::proxy::{Proxy, Start};
+use crate::proxy::{ServiceProxy, StartOptions};
 use daemon_parts::{DaemonFault, Options, ProxyFiles, Socket, read_setup, read_text};
 use fork_call::Setup;
 use fork_clock::Epoch;
@@ -33,7 +33,7 @@ const STANDARD_OUTPUT: i32 = 1;
 /// A proxy, and the sockets at which it tells of itself.
 #[derive(Drop)]
 struct Server {
-    proxy: Proxy,
+    proxy: ServiceProxy,
     listeners: Listeners,
 }
 
@@ -47,7 +47,7 @@ fn can_print() -> bool {
     net::poll(&mut asked, 0) > 0
 }
 
-impl Crew<Socket> for Server {
+impl ServerThreads<Socket> for Server {
     fn work<R: Wait + Clock>(
         &self,
         rt: &R,
@@ -150,7 +150,7 @@ fn server_of<R: Clock + ProxyFiles + PageSockets>(
     rt: &R,
     alloc: Global,
     setup: Setup<Global>,
-    start: Start<'_>,
+    start: StartOptions<'_>,
     own: Hop,
 ) -> Result<Server, DaemonFault>
     ensures { IfErr result IsSystemFault }
@@ -158,7 +158,7 @@ fn server_of<R: Clock + ProxyFiles + PageSockets>(
     let Some(epoch) = Epoch::now(rt) else {
         return Err(DaemonFault::Clock);
     };
-    let Ok(proxy) = Proxy::new(rt, alloc, start, setup, own, epoch) else {
+    let Ok(proxy) = ServiceProxy::new(rt, alloc, start, setup, own, epoch) else {
         return Err(DaemonFault::NoMemory);
     };
     match open_all(rt, start.options) {
@@ -172,7 +172,7 @@ fn serve_setup<R: Threads + Wait + Net + ProxyFiles + PageSockets + Clock + Prin
     rt: &R,
     alloc: Global,
     setup: Setup<Global>,
-    start: Start<'_>,
+    start: StartOptions<'_>,
 ) -> Result<(), DaemonFault>
     ensures { IfErr result IsSystemFault }
 {
@@ -220,7 +220,7 @@ pub fn serve_text<R: Threads + Wait + Net + ProxyFiles + PageSockets + Clock + P
     ensures fault { IfErr result (IsServeFaultOf text.now number) }
 {
     let setup = read_text(alloc, text, number)?;
-    serve_setup(rt, alloc, setup, Start { options, number })
+    serve_setup(rt, alloc, setup, StartOptions { options, number })
 }
 
 /// The number of a run that begins so long after the beginning of 1970: the milliseconds, without what is beyond 32 bits. Two runs have the

@@ -1,24 +1,24 @@
 //! The thread that keeps the time of calls.
 use crate::port::SocketPort;
-use crate::proxy::Proxy;
+use crate::proxy::ServiceProxy;
 use daemon_parts::Socket;
-use fork_clock::Watch;
-use proxy_service::State;
+use fork_clock::ThreadClock;
+use proxy_service::ServiceState;
 use std::sync::Wait;
 use std::time::Clock;
 
-impl Proxy {
+impl ServiceProxy {
     /// Does what is due, when it is, until the end.
     fn keep_time_until_end<'a, R: Wait + Clock>(&'a self, rt: &R, socket: &'a Socket) {
         let service = &self.service;
         let counts = &service.counts().datagrams;
         let mut port = SocketPort::new(socket, counts, &counts.timed);
-        let mut watch = Watch::new(self.epoch);
+        let mut watch = ThreadClock::new(self.epoch);
         for _ in rt.forever() {
             let now = watch.micros(rt) / 1_000;
             service.tick(rt, &mut port, now);
             let until = service.next_look(rt, now);
-            if service.is_in(State::Ended) {
+            if service.is_in(ServiceState::Ended) {
                 return;
             }
             service.schedule().sleep_until(rt, watch.micros(rt), until);

@@ -3,13 +3,13 @@ ghost use Rattle.std.specs.Prelude.{◌≤◌, length, IfErr, IfOk, IfSome};
 ghost use Rattle.fork_daemon.specs.Faults.{IsSystemFault};
 
 use crate::port::SocketPort;
-use crate::proxy::Proxy;
-use crate::receiving::Entered;
+use crate::proxy::ServiceProxy;
+use crate::receiving::ClaimedDatagram;
 use daemon_parts::{DaemonFault, Socket};
 use fork_call::Port;
-use fork_clock::Watch;
+use fork_clock::ThreadClock;
 use proxy_dispatch::Received;
-use proxy_service::State;
+use proxy_service::ServiceState;
 use sip_uri::Hop;
 use std::alloc::{AllocError, Global};
 use std::hint::spin_loop;
@@ -37,7 +37,7 @@ fn pause() {
 #[derive(Drop)]
 struct WorkerState<'a> {
     port: SocketPort<'a>,
-    watch: Watch,
+    watch: ThreadClock,
     /// How many datagrams it handles until it has the allocator hold memory ready again.
     left: u32,
 }
@@ -55,13 +55,13 @@ impl WorkerState<'_> {
     }
 }
 
-impl Proxy {
+impl ServiceProxy {
     /// Handles a datagram, and notes how long that took. The moment is read as it begins.
-    pub(crate) fn take_timed<R: Wait + Clock, P: Port>(
+    pub(crate) fn handle_timed<R: Wait + Clock, P: Port>(
         &self,
         rt: &R,
         port: &mut P,
-        watch: &mut Watch,
+        watch: &mut ThreadClock,
         bytes: &[u8],
         source: Hop,
     ) {
@@ -77,7 +77,7 @@ impl Proxy {
     }
 
     /// Handles what was handed over meanwhile in a group that this worker is on, and leaves the group.
-    fn take_waiting<R: Wait + Clock>(
+    fn drain_group<R: Wait + Clock>(
         &self,
         rt: &R,
         state: &mut WorkerState<'_>,
@@ -87,7 +87,7 @@ impl Proxy {
             match self.groups.next(rt, group) {
                 Some(packet) => {
                     let (port, watch) = (&mut state.port, &mut state.watch);
-                    self.take_timed(rt, port, watch, packet.bytes.as_slice(), packet.source);
+                    self.handle_timed(rt, port, watch, packet.bytes.as_slice(), packet.source);
                 }
                 None => return,
             }
@@ -96,20 +96,20 @@ impl Proxy {
     }
 
     /// Handles a datagram whose group of calls this worker has entered, and those that are handed over to it meanwhile.
-    fn take_entered<R: Wait + Clock>(
+    fn handle_claimed<R: Wait + Clock>(
         &self,
         rt: &R,
         state: &mut WorkerState<'_>,
         buffer: &[u8],
-        entered: Entered,
+        entered: ClaimedDatagram,
     )
         requires { entered.count ≤ length buffer.now }
     {
         state.hold_ready(self.alloc);
         let bytes = &buffer[..entered.count];
         let (port, watch) = (&mut state.port, &mut state.watch);
-        self.take_timed(rt, port, watch, bytes, entered.source);
-        self.take_waiting(rt, state, entered.group);
+        self.handle_timed(rt, port, watch, bytes, entered.source);
+        self.drain_group(rt, state, entered.group);
     }
 
     /// Is idle until a worker is woken, while another one receives.
@@ -131,9 +131,9 @@ impl Proxy {
         &self,
         rt: &R,
         socket: &Socket,
-        watch: &mut Watch,
+        watch: &mut ThreadClock,
         buffer: &mut [u8],
-    ) -> Result<Option<Entered>, DaemonFault>
+    ) -> Result<Option<ClaimedDatagram>, DaemonFault>
         ensures fits { IfOk result (λ came. IfSome came (λ entered. entered.count ≤ length buffer.new)) }
         ensures fault { IfErr result IsSystemFault }
     {
@@ -171,17 +171,17 @@ impl Proxy {
         let counts = &self.service.counts().datagrams;
         let mut state = WorkerState {
             port: SocketPort::new(socket, counts, &counts.sent),
-            watch: Watch::new(self.epoch),
+            watch: ThreadClock::new(self.epoch),
             left: 0,
         };
         for _ in rt.forever() {
-            if self.service.is_in(State::Ended) {
+            if self.service.is_in(ServiceState::Ended) {
                 return Ok(());
             }
             let came = self.receive_or_wait(rt, socket, &mut state.watch, buffer)?;
             if let Some(entered) = came {
                 self.hand_receiving_over(socket);
-                self.take_entered(rt, &mut state, buffer, entered);
+                self.handle_claimed(rt, &mut state, buffer, entered);
             }
         }
         unreachable!()

@@ -1,7 +1,7 @@
 //! The thread that writes the journal. No other one opens or writes its file, so whatever the disk or a pipe does keeps no worker and no
 //! timer.
 use crate::pieces::first_piece;
-use crate::proxy::Proxy;
+use crate::proxy::ServiceProxy;
 use daemon_parts::ProxyFiles;
 use proxy_service::Batch;
 use std::sync::Wait;
@@ -11,7 +11,7 @@ use std::time::{Clock, Duration};
 /// How long the thread rests behind a write, in milliseconds: what comes meanwhile is written at once.
 const REST: u64 = 20;
 
-impl Proxy {
+impl ServiceProxy {
     /// Writes blocks, piece by piece, so that one that cannot be written is counted alone. At the end of the proxy, behind one that cannot,
     /// no other is tried: a pipe that nobody reads may take a second for each.
     fn write_batch<R: ProxyFiles>(&self, rt: &R, path: &str, batch: &Batch, torn: &mut bool) {

@@ -11,8 +11,8 @@ use Rattle.fork_text.specs.Pieces.{is_empty}
 use Rattle.fork_text.specs.LineByLine as texts
 use Rattle.fork_text.proofs.laws.Field.{found_map, found_then}
 use Rattle.fork_text.proofs.laws.Lines.{all_append, all_front, all_back, drafted_append}
-use Rattle.fork_program.specs.declared.script.Phase.{Phase}
-use Rattle.fork_program.specs.declared.script.Phase.TheVariants.{AtKind, AtPrefer, AtDepth, AtTargets, AtEvents, AtAnswer}
+use Rattle.fork_program.specs.declared.script.ScriptPhase.{ScriptPhase}
+use Rattle.fork_program.specs.declared.script.ScriptPhase.TheVariants.{AtKind, AtPrefer, AtDepth, AtTargets, AtEvents, AtAnswer}
 use Rattle.fork_program.specs.Line as lines
 use Rattle.fork_program.specs.Line.{KindLine, PreferLine, DepthLine, TargetLine, EventLine, ContactLine, OtherLine, ChallengeLine}
 use Rattle.fork_program.specs.Script as plain
@@ -42,10 +42,10 @@ draft_of last before = record { last = last; before = before }
 behind_at_work : (event : Event) → is_at_work (phase_behind event) ≡ true
 behind_at_work event = grind arith
 
-abbrev AtWork : Phase → Type 0
+abbrev AtWork : ScriptPhase → Type 0
 AtWork phase = is_at_work phase ≡ true
 
-work_phase : (phase : Phase) (line : lines.Line) (next : Phase) → is_at_work phase ≡ true → phase_after phase line ≡ Some next → is_at_work next ≡ true
+work_phase : (phase : ScriptPhase) (line : lines.Line) (next : ScriptPhase) → is_at_work phase ≡ true → phase_after phase line ≡ Some next → is_at_work next ≡ true
 work_phase AtEvents (EventLine event) next work at = subst AtWork (same_Some _ _ at) (behind_at_work event)
 work_phase AtAnswer (EventLine event) next work at = subst AtWork (same_Some _ _ at) (behind_at_work event)
 work_phase AtAnswer (ContactLine q name) next work at = subst AtWork (same_Some _ _ at) refl
@@ -145,7 +145,7 @@ none_due true true true f n y z = absurd cc
 none_due true false c f n y z = absurd cc
 none_due false b c f n y z = refl
 
-kind_at_work : (phase : Phase) → is_at_work phase ≡ true → has_kind phase ≡ true
+kind_at_work : (phase : ScriptPhase) → is_at_work phase ≡ true → has_kind phase ≡ true
 kind_at_work phase work = grind arith
 
 more_may : (n : ℕ) → suc n < most_workers → nat_lt (suc n) most_workers ≡ true
@@ -196,14 +196,14 @@ changed_empty change [] = refl
 changed_empty change (event ∷ []) = refl
 changed_empty change (event ∷ next ∷ events) = refl
 
-event_phase : (phase : Phase) (event : Event) (next : Phase) → phase_after phase (EventLine event) ≡ Some next → is_at_work next ≡ true
+event_phase : (phase : ScriptPhase) (event : Event) (next : ScriptPhase) → phase_after phase (EventLine event) ≡ Some next → is_at_work next ≡ true
 event_phase AtKind event next at = absurd cc
 event_phase _ event next at = subst AtWork (same_Some _ _ at) (behind_at_work event)
 
-abbrev CountsIn : Script → lines.Line → Phase → Type 0
+abbrev CountsIn : Script → lines.Line → ScriptPhase → Type 0
 CountsIn s line next = is_at_work next ≡ not (is_empty (with_line s line).events)
 
-counts_phase : (phase : Phase) (s : Script) (line : lines.Line) (next : Phase) → is_at_work phase ≡ not (is_empty s.events) → phase_after phase line ≡ Some next → CountsIn s line next
+counts_phase : (phase : ScriptPhase) (s : Script) (line : lines.Line) (next : ScriptPhase) → is_at_work phase ≡ not (is_empty s.events) → phase_after phase line ≡ Some next → CountsIn s line next
 counts_phase phase s (EventLine event) next counts at = event_phase phase event next at ∙ ap not (sym (some_snoc s.events event))
 counts_phase AtAnswer s (ContactLine q name) next counts at =
     subst (CountsIn s (ContactLine q name)) (same_Some _ _ at) (counts ∙ ap not (sym (changed_empty _ s.events)))
@@ -220,7 +220,7 @@ counts_phase AtDepth s (TargetLine q name) next counts at = subst (CountsIn s (T
 counts_phase AtTargets s (TargetLine q name) next counts at = subst (CountsIn s (TargetLine q name)) (same_Some _ _ at) counts
 counts_phase _ s _ next counts at = absurd cc
 
-counts_line : (phase : Phase) (s : Script) (line : lines.Line) (next : plain.Draft) → Counts (in_phase phase s) → plain.drafted_line (in_phase phase s) line ≡ Some next → Counts next
+counts_line : (phase : ScriptPhase) (s : Script) (line : lines.Line) (next : plain.Draft) → Counts (in_phase phase s) → plain.drafted_line (in_phase phase s) line ≡ Some next → Counts next
 counts_line phase s line next counts due =
     found_map (λ p. in_phase p (with_line s line)) (phase_after phase line) next Counts (λ p at. counts_phase phase s line p counts at) due
 
@@ -525,10 +525,10 @@ record Completed (draft : Draft) : Type 0 where
   due : drafted_lines draft more ≡ Some next
   work : is_at_work next.last.phase ≡ true
 
-as_it_is : (phase : Phase) (s : Script) (before : List (List Event)) → is_at_work phase ≡ true → Completed (draft_of (in_phase phase s) before)
+as_it_is : (phase : ScriptPhase) (s : Script) (before : List (List Event)) → is_at_work phase ≡ true → Completed (draft_of (in_phase phase s) before)
 as_it_is phase s before work = record { more = []; right = tt; next = draft_of (in_phase phase s) before; due = refl; work = work }
 
-by_worker : (phase : Phase) (s : Script) (before : List (List Event)) → has_kind phase ≡ true → is_at_work phase ≡ false → Completed (draft_of (in_phase phase s) before)
+by_worker : (phase : ScriptPhase) (s : Script) (before : List (List Event)) → has_kind phase ≡ true → is_at_work phase ≡ false → Completed (draft_of (in_phase phase s) before)
 by_worker phase s before kind quiet = record {
   more = WorkerLine ∷ [];
   right = (tt, tt);
@@ -537,7 +537,7 @@ by_worker phase s before kind quiet = record {
   work = refl;
 }
 
-completed_by : (phase : Phase) (s : Script) (before : List (List Event)) → Completed (draft_of (in_phase phase s) before)
+completed_by : (phase : ScriptPhase) (s : Script) (before : List (List Event)) → Completed (draft_of (in_phase phase s) before)
 completed_by AtKind s before =
     let more = by_worker AtPrefer (with_line s (KindLine Invite)) before refl refl in
     record {

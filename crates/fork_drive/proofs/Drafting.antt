@@ -5,7 +5,7 @@ use Rattle.std.specs.Option.{option_map}
 use Rattle.std.proofs.lemmas.List.{length-append}
 use Rattle.std.proofs.lemmas.List.Sums.{sum_by_push}
 use Rattle.fork_model.specs.Event.{FinalAnswer, Event}
-use Rattle.fork_program.specs.declared.script.Phase.{Phase}
+use Rattle.fork_program.specs.declared.script.ScriptPhase.{ScriptPhase}
 use Rattle.fork_program.specs.Line.{Line, KindLine, PreferLine, DepthLine, TargetLine, EventLine, ContactLine, OtherLine, ChallengeLine}
 use Rattle.fork_program.specs.Reading.{read_line}
 use Rattle.fork_program.specs.Script as plain
@@ -48,12 +48,12 @@ last_adds : (draft : Draft) (line : Option Line) → IfSome (option_and_then (wi
 last_adds draft None = tt
 last_adds draft (Some line) = go (phase_after draft.last.phase line)
   where
-    pick : (phase : Phase) (b : Bool)
+    pick : (phase : ScriptPhase) (b : Bool)
         → IfSome (cond b None (Some (record draft { last = record { phase = phase; script = with_line draft.last.script line } }))) (AddsOne draft)
     pick phase true = tt
     pick phase false = let e = line_adds draft.last.script line in omega arith
 
-    go : (phase : Option Phase)
+    go : (phase : Option ScriptPhase)
         → IfSome (option_and_then (with_last draft) (option_map (λ p. record { phase = p; script = with_line draft.last.script line }) phase)) (AddsOne draft)
     go None = tt
     go (Some phase) = pick phase _

@@ -11,8 +11,8 @@ use Rattle.sip_lex.specs.Cut.{is, Lacks}
 use Rattle.sip_lex.proofs.laws.Splits.{pieces_lack}
 use Rattle.fork_text.proofs.laws.Field.{found_map}
 use Rattle.fork_text.proofs.laws.Lines.{IsReader, read_lines, malformed, found, next_piece}
-use Rattle.fork_program.specs.declared.script.ReadFault.{ReadFault}
-use Rattle.fork_program.specs.declared.script.ReadFault.TheVariants as read
+use Rattle.fork_program.specs.declared.script.ScriptFault.{ScriptFault}
+use Rattle.fork_program.specs.declared.script.ScriptFault.TheVariants as read
 use Rattle.fork_program.specs.Line as lines
 use Rattle.fork_program.specs.Reading as plain
 use Rattle.fork_program.specs.Script as single
@@ -161,16 +161,16 @@ malformed_found text n e =
 
 -- ---- so what a call gives says which text it was
 
-pub gives_found : (text : List ℕ) (r : Result Workers ReadFault) → GivesWorkers (read_workers text) r → IfOk r (Spells text)
+pub gives_found : (text : List ℕ) (r : Result Workers ScriptFault) → GivesWorkers (read_workers text) r → IfOk r (Spells text)
 gives_found text (Ok workers) h = workers_found text workers h
 gives_found text (Err fault) h = tt
 
-pub gives_only : (text : List ℕ) (r : Result Workers ReadFault) → GivesWorkers (read_workers text) r → (workers : Workers) → Spells text workers → GivesWorkers (Ok workers) r
+pub gives_only : (text : List ℕ) (r : Result Workers ScriptFault) → GivesWorkers (read_workers text) r → (workers : Workers) → Spells text workers → GivesWorkers (Ok workers) r
 gives_only text (Ok found) h workers is = sym (workers_read text workers is) ∙ h
 gives_only text (Err (read.Line number)) h workers is = sym (workers_read text workers is) ∙ h
 gives_only text (Err read.NoMemory) h workers is = tt
 
-pub gives_fault : (text : List ℕ) (r : Result Workers ReadFault) → GivesWorkers (read_workers text) r → IfErr r (IsFaultOf text)
+pub gives_fault : (text : List ℕ) (r : Result Workers ScriptFault) → GivesWorkers (read_workers text) r → IfErr r (IsFaultOf text)
 gives_fault text (Ok workers) h = tt
 gives_fault text (Err (read.Line number)) h = malformed_found text number h
 gives_fault text (Err read.NoMemory) h = tt

@@ -9,13 +9,13 @@ use Rattle.fork_program.specs.declared.fault.Fault.{Fault}
 use Rattle.fork_program.specs.declared.fault.Fault.TheVariants as fault
 use Rattle.fork_program.specs.Faults.{most_text}
 use Rattle.fork_program.specs.Program.{command_of, Appends, IsCommandFault}
-use Rattle.fork_drive.specs.declared.asked.Asked.{Asked}
-use Rattle.fork_drive.specs.declared.asked.Asked.TheVariants.{Drive, Alone}
+use Rattle.fork_drive.specs.declared.asked.ProgramCommand.{ProgramCommand}
+use Rattle.fork_drive.specs.declared.asked.ProgramCommand.TheVariants.{Drive, Alone}
 use Rattle.fork_drive.specs.Faults.{AppendsRun, IsDriveFault}
 use Rattle.fork_drive.specs.Headline.{AppendsOneFinal, AppendsNoFinal}
 
 -- `drive` has workers run; all else is as without workers
-abbrev pub asked_for : List (List ℕ) → Option Asked
+abbrev pub asked_for : List (List ℕ) → Option ProgramCommand
 asked_for [] = option_map Alone (command_of [])
 asked_for (name ∷ []) = option_map Alone (command_of (name ∷ []))
 asked_for (name ∷ word ∷ []) =
@@ -23,13 +23,13 @@ asked_for (name ∷ word ∷ []) =
 asked_for (name ∷ word ∷ other ∷ words) = option_map Alone (command_of (name ∷ word ∷ other ∷ words))
 
 -- what is appended of a text, and the status that goes with it
-abbrev pub AppendsAsked : Asked → List ℕ → List ℕ → List ℕ → ℕ → Type 0
+abbrev pub AppendsAsked : ProgramCommand → List ℕ → List ℕ → List ℕ → ℕ → Type 0
 AppendsAsked Drive text old new status =
     (status ≡ 0) × AppendsRun text old new × AppendsOneFinal text old new × AppendsNoFinal text old new
 AppendsAsked (Alone command) text old new status = Appends command text old new status
 
 -- why what is asked for is refused of a text
-abbrev pub IsAskedFault : Asked → List ℕ → ProgFault → Type 0
+abbrev pub IsAskedFault : ProgramCommand → List ℕ → ProgFault → Type 0
 IsAskedFault Drive text refused = IsDriveFault text refused
 IsAskedFault (Alone command) text refused = IsCommandFault command text refused
 
@@ -38,12 +38,12 @@ abbrev pub IsWhole : Option (List ℕ) → List ℕ → Type 0
 IsWhole input text = IfSome input (λ bytes. text ≡ take (most_text + 1) bytes)
 
 -- what is printed of the input's text is behind what the output had
-abbrev pub Writes : Asked → Option (List ℕ) → Option (List ℕ) → Option (List ℕ) → ℕ → Type 0
+abbrev pub Writes : ProgramCommand → Option (List ℕ) → Option (List ℕ) → Option (List ℕ) → ℕ → Type 0
 Writes asked input old new status =
     (text : List ℕ) × (printed : List ℕ) × IsWhole input text × AppendsAsked asked text [] printed status × known.Appends old new printed
 
 -- why the input's text has no answer, or its answer is not written
-abbrev pub IsAnswerFault : Asked → Option (List ℕ) → Fault → Type 0
+abbrev pub IsAnswerFault : ProgramCommand → Option (List ℕ) → Fault → Type 0
 IsAnswerFault asked input fault.Usage = ⊥
 IsAnswerFault asked input fault.Read = Unit {0}
 IsAnswerFault asked input fault.Write =

@@ -3,7 +3,7 @@ ghost use Rattle.std.specs.Prelude.{◌≡◌, IfOk, IfErr, OnErr, map, string_b
 ghost use Rattle.fork_drive.specs.Asked.{asked_for, AppendsAsked, IsAskedFault, IsAnswerFault, Writes};
 
 use crate::run::drive_text;
-use fork_program::{Command, Fault, ProgFault, read_input};
+use fork_program::{Fault, ProgFault, TextCommand, read_input};
 use std::alloc::Allocator;
 use std::io::{Read, Write};
 use std::sync::Wait;
@@ -11,21 +11,21 @@ use std::thread::Threads;
 
 /// What is done with standard input.
 #[derive(Clone, Copy, Debug, PartialEq, Eq)]
-pub enum Asked {
+pub enum ProgramCommand {
     /// The workers of a script are run.
     Drive,
     /// What takes one thread.
-    Alone(Command),
+    Alone(TextCommand),
 }
 
-impl Asked {
+impl ProgramCommand {
     /// What the arguments ask for, the program's name among them; where nothing stands behind it, a replay.
-    pub fn of(words: &[String]) -> Option<Asked>
+    pub fn of(words: &[String]) -> Option<ProgramCommand>
         ensures { result ≡ asked_for (map string_bytes words.now) }
     {
         match words {
-            [_, word] if word.as_str() == "drive" => Some(Asked::Drive),
-            _ => Some(Asked::Alone(Command::of(words)?)),
+            [_, word] if word.as_str() == "drive" => Some(ProgramCommand::Drive),
+            _ => Some(ProgramCommand::Alone(TextCommand::of(words)?)),
         }
     }
 
@@ -33,7 +33,7 @@ impl Asked {
     ///
     /// # Errors
     ///
-    /// Those of `drive_text`, of which `Torn` is told without its book, and of `Command::run`. After each `out` is as it was.
+    /// Those of `drive_text`, of which `Torn` is told without its book, and of `TextCommand::run`. After each `out` is as it was.
     #[tactic(auto, using(crate::proofs::Running::told_so))]
     pub fn run<A: Allocator + Clone + Send + Sync, R: Threads + Wait + Sync>(
         self,
@@ -47,11 +47,11 @@ impl Asked {
         ensures err { OnErr result (out.new.items ≡ out.old.items) }
     {
         match self {
-            Asked::Drive => match drive_text(rt, alloc, text, out) {
+            ProgramCommand::Drive => match drive_text(rt, alloc, text, out) {
                 Ok(status) => Ok(status),
                 Err(fault) => Err(fault.told()),
             },
-            Asked::Alone(command) => command.run(alloc, text, out),
+            ProgramCommand::Alone(command) => command.run(alloc, text, out),
         }
     }
 
@@ -60,7 +60,7 @@ impl Asked {
     ///
     /// # Errors
     ///
-    /// In this order: `Read`, where the input cannot be read; `Text` with what [`Asked::run`] refuses; `Write`, where the
+    /// In this order: `Read`, where the input cannot be read; `Text` with what [`ProgramCommand::run`] refuses; `Write`, where the
     /// output takes not all. `Text` with want of memory anywhere before that.
     pub fn answer<A: Allocator + Clone + Send + Sync, R: Threads + Wait + Sync, I: Read, O: Write>(
         self,

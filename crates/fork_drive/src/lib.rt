@@ -9,6 +9,6 @@ mod print;
 mod run;
 mod workers;
 
-pub use asked::Asked;
+pub use asked::ProgramCommand;
 pub use fault::RunFault;
 pub use run::drive_text;

@@ -29,9 +29,9 @@ use std::thread::Threads;
 
 /// A gate that holds nobody.
 #[derive(Drop)]
-struct Open;
+struct OpenGate;
 
-impl Gate for Open {
+impl Gate for OpenGate {
     fn before(&self, _worker: u8, _place: u32) {}
 
     fn after(&self, _worker: u8, _place: u32) {}
@@ -84,7 +84,7 @@ fn printed<A: Allocator + Clone + Send + Sync, R: Threads + Wait + Sync>(
     } = workers;
     let mut text = Vec::new(alloc.clone()?);
     append_first(alloc, &mut text, kind, rules, &targets)?;
-    match drive(rt, alloc.clone()?, kind, rules, targets, scripts, &Open) {
+    match drive(rt, alloc.clone()?, kind, rules, targets, scripts, &OpenGate) {
         Ok(book) => {
             append_posts(&mut text, &book)?;
             append_ending(alloc.clone()?, &mut text, book.context())?;

@@ -8,7 +8,7 @@ ghost use Rattle.fork_drive.specs.inner.Workers.{event_count};
 ghost use Rattle.fork_drive.specs.inner.ReadView.{GivesWorkers, IsFaultOf};
 
 use fork_context::{Event, Kind, Target};
-use fork_program::{Draft, Phase, ReadFault, Script};
+use fork_program::{Script, ScriptDraft, ScriptFault, ScriptPhase};
 use fork_rank::Rules;
 use sip_lex::cut_at;
 use std::alloc::{AllocError, Allocator};
@@ -47,10 +47,10 @@ impl<A: Allocator> Model for Workers<A> {
 }
 
 /// Whether a worker has begun.
-fn is_at_work(phase: Phase) -> bool
+fn is_at_work(phase: ScriptPhase) -> bool
     ensures { result ≡ is_at_work phase }
 {
-    matches!(phase, Phase::AtEvents | Phase::AtAnswer)
+    matches!(phase, ScriptPhase::AtEvents | ScriptPhase::AtAnswer)
 }
 
 /// The events, in their order.
@@ -83,7 +83,7 @@ fn with_events<A: Allocator>(
 /// The lines read so far: what is forked with the last worker's events, and the events of the workers before it.
 #[derive(Drop)]
 struct WorkersDraft<A: Allocator> {
-    last: Draft<A>,
+    last: ScriptDraft<A>,
     before: Vec<Vec<Event<A>, A>, A>,
 }
 
@@ -106,7 +106,7 @@ impl<A: Allocator + Clone> WorkersDraft<A> {
         ensures { IfOk result (λ draft. draft ≡ no_draft) }
     {
         Ok(WorkersDraft {
-            last: Draft::new(alloc)?,
+            last: ScriptDraft::new(alloc)?,
             before: Vec::new(alloc.clone()?),
         })
     }
@@ -116,13 +116,13 @@ impl<A: Allocator + Clone> WorkersDraft<A> {
         ensures { IfOk result (λ next. next ≡ with_worker self) }
     {
         let WorkersDraft { last, before } = self;
-        let Draft { phase, script } = last;
+        let ScriptDraft { phase, script } = last;
         if !phase.has_kind() {
             return Ok(None);
         }
         if !is_at_work(phase) {
-            let last = Draft {
-                phase: Phase::AtEvents,
+            let last = ScriptDraft {
+                phase: ScriptPhase::AtEvents,
                 script,
             };
             return Ok(Some(WorkersDraft { last, before }));
@@ -137,8 +137,8 @@ impl<A: Allocator + Clone> WorkersDraft<A> {
             events,
         } = script;
         let before = with_events(alloc.clone()?, before, events)?;
-        let last = Draft {
-            phase: Phase::AtEvents,
+        let last = ScriptDraft {
+            phase: ScriptPhase::AtEvents,
             script: Script {
                 kind,
                 rules,
@@ -168,14 +168,14 @@ impl<A: Allocator + Clone> WorkersDraft<A> {
     }
 
     /// The whole script, where nothing stands behind its last LF and a worker has begun.
-    fn finished(self, alloc: &A, number: u32, rest: &[u8]) -> Result<Workers<A>, ReadFault>
+    fn finished(self, alloc: &A, number: u32, rest: &[u8]) -> Result<Workers<A>, ScriptFault>
         requires { event_count self < number }
         ensures { GivesWorkers (finished_draft number self rest.now) result }
     {
         let WorkersDraft { last, before } = self;
-        let Draft { phase, script } = last;
+        let ScriptDraft { phase, script } = last;
         if !rest.is_empty() || !is_at_work(phase) {
-            return Err(ReadFault::Line(number));
+            return Err(ScriptFault::Line(number));
         }
         let Script {
             kind,
@@ -196,7 +196,7 @@ impl<A: Allocator + Clone> WorkersDraft<A> {
 impl<A: Allocator + Clone> Workers<A> {
     /// The script with workers that the lines of a text say, one after the other.
     #[tactic(auto, unfolding(crate::specs::inner::Reading::read_workers))]
-    fn read_lines(alloc: &A, text: &[u8]) -> Result<Self, ReadFault>
+    fn read_lines(alloc: &A, text: &[u8]) -> Result<Self, ScriptFault>
         requires { length text.now < 2 ^ 31 }
         ensures { GivesWorkers (read_workers text.now) result }
     {
@@ -209,7 +209,7 @@ impl<A: Allocator + Clone> Workers<A> {
                 return draft.finished(alloc, number, line);
             };
             let Some(next) = draft.with_line(alloc, line)? else {
-                return Err(ReadFault::Line(number));
+                return Err(ScriptFault::Line(number));
             };
             draft = next;
             number += 1;
@@ -222,7 +222,7 @@ impl<A: Allocator + Clone> Workers<A> {
     /// # Errors
     ///
     /// The first malformed line, counted from 1, a missing one by the number that it would have; or want of memory.
-    pub(crate) fn read(alloc: &A, text: &[u8]) -> Result<Self, ReadFault>
+    pub(crate) fn read(alloc: &A, text: &[u8]) -> Result<Self, ScriptFault>
         requires { length text.now < 2 ^ 31 }
         ensures found { IfOk result (Spells text.now) }
         ensures only { (workers : spec.Workers) → Spells text.now workers → GivesWorkers (Ok workers) result }

@@ -38,7 +38,7 @@ impl<A: Allocator + Clone> OpenedBook<A> {
 
 /// What a run begins with.
 #[derive(Drop)]
-pub(crate) struct Run<A: Allocator + Clone> {
+pub(crate) struct DriveRun<A: Allocator + Clone> {
     pub(crate) alloc: A,
     pub(crate) targets: Vec<Target<A>, A>,
     pub(crate) held: OpenedBook<A>,
@@ -130,7 +130,7 @@ pub(crate) fn opened_run<A: Allocator + Clone>(
     kind: Kind,
     rules: Rules,
     targets: Vec<Target<A>, A>,
-) -> Result<Run<A>, DriveFault<A>>
+) -> Result<DriveRun<A>, DriveFault<A>>
     ensures none { IsErrAnd result (IsNew NewFault.NoTargets) ↔ (targets.items ≡ []) }
     ensures many { IsErrAnd result (IsNew NewFault.TooMany) ↔ IsTooMany targets.items }
     ensures twice { IsErrAnd result (IsNew NewFault.Twice) ↔ ((length targets.items ≤ most_targets) × HasTwice targets.items) }
@@ -142,7 +142,7 @@ pub(crate) fn opened_run<A: Allocator + Clone>(
         return Err(refused(alloc, kind, rules, targets));
     };
     match opened(kind, rules, given) {
-        Ok(held) => Ok(Run {
+        Ok(held) => Ok(DriveRun {
             alloc,
             targets,
             held,

@@ -11,7 +11,7 @@ ghost use Rattle.interleaving.specs.Interleaving.{IsInterleaving};
 ghost use Rattle.interleaving.specs.Plain.{EndsWithLeast};
 
 use crate::fault::DriveFault;
-use crate::opened_book::{OpenedBook, Run, is_ours, opened_run};
+use crate::opened_book::{DriveRun, OpenedBook, is_ours, opened_run};
 use crate::workers::{Gate, RefusalFlags, WorkerArguments, post_under_lock};
 use fork_book::Book;
 use fork_context::{Event, Kind, NewFault, Target};
@@ -91,7 +91,7 @@ pub fn drive<A: Allocator + Clone + Send + Sync, G: Gate + Sync, R: Threads + Wa
     order_does_not_matter();
     let run = opened_run(alloc, kind, rules, targets)?;
     let refusals = RefusalFlags::new();
-    let Run {
+    let DriveRun {
         alloc,
         targets,
         held,

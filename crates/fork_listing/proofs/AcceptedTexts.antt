@@ -1,5 +1,5 @@
 -- Exactly the texts of right listings are accepted.
-use Rattle.fork_listing.proofs.Common.{◌≡◌, ℕ, suc, ◌<◌, ◌≤◌, List, map, Some, Result, Ok, Err, refl, sym, ap, ◌∙◌, arith, inl, inr, ◌⊎◌, slice_get, cases_lt, Score, HasScore, AreArrivals, End, Target, Verdict, TargetLine, most_arrival, arrival_of}
+use Rattle.fork_listing.proofs.Common.{◌≡◌, ℕ, suc, ◌<◌, ◌≤◌, List, map, Some, Result, Ok, Err, refl, sym, ap, ◌∙◌, arith, inl, inr, ◌⊎◌, slice_get, cases_lt, Score, HasScore, AreArrivals, End, ListedTarget, Verdict, TargetLine, most_arrival, arrival_of}
 use Rattle.fork_listing.proofs.Common.{ended_at, IsInPlace, rows_of, score_in, score_at, Listing, rule_lines, read_listing, IsRight, IsVerdictOf, IsChecked, verdict_of, IsLine, IsEnd, IsListing, IsRightText, all_at, looked, option_map, slice_get-map}
 use Rattle.fork_listing.proofs.Common.{slice_get_within, common_steps}
 use Rattle.std.specs.Prelude.{IfOk, IfErr}
@@ -15,20 +15,20 @@ use Rattle.fork_listing.proofs.SpelledListings.{read_exactly}
 
 -- ---- a score and its arrival
 
-pub scored_at : (targets : List Target) (n : ℕ) (score : Score) → score_at targets n ≡ Some score
-    → (target : Target) × (slice_get targets n ≡ Some target) × (score_in target.end ≡ Some score)
-scored_at targets n score e = looked (λ (t : Target). score_in t.end) (slice_get targets n) e
+pub scored_at : (targets : List ListedTarget) (n : ℕ) (score : Score) → score_at targets n ≡ Some score
+    → (target : ListedTarget) × (slice_get targets n ≡ Some target) × (score_in target.end ≡ Some score)
+scored_at targets n score e = looked (λ (t : ListedTarget). score_in t.end) (slice_get targets n) e
 
-pub score_ends : (targets : List Target) (n : ℕ) (score : Score) → score_at targets n ≡ Some score → ended_at targets n ≡ Some score.arrival
+pub score_ends : (targets : List ListedTarget) (n : ℕ) (score : Score) → score_at targets n ≡ Some score → ended_at targets n ≡ Some score.arrival
 score_ends targets n score e = grind arith
 
 -- branches that stand as they may ended apart
-pub ended_apart : (most_depth : ℕ) (targets : List Target) → ((n : ℕ) (target : Target) → slice_get targets n ≡ Some target → IsInPlace most_depth targets n target)
+pub ended_apart : (most_depth : ℕ) (targets : List ListedTarget) → ((n : ℕ) (target : ListedTarget) → slice_get targets n ≡ Some target → IsInPlace most_depth targets n target)
     → (m n a : ℕ) → ended_at targets m ≡ Some a → ended_at targets n ≡ Some a → m ≡ n
 ended_apart most_depth targets placed m n a x y = go (cases_lt m n) (cases_lt n m)
   where
     clash : (i j : ℕ) → i < j → ended_at targets i ≡ Some a → ended_at targets j ≡ Some a → ⊥
-    clash i j lt x y = let s = looked (λ (t : Target). arrival_of t.end) (slice_get targets j) y in (placed j s.0 s.1).apart i a lt x s.2
+    clash i j lt x y = let s = looked (λ (t : ListedTarget). arrival_of t.end) (slice_get targets j) y in (placed j s.0 s.1).apart i a lt x s.2
 
     go : (m < n) ⊎ (n ≤ m) → (n < m) ⊎ (m ≤ n) → m ≡ n
     go (inl lt) other = absurd (clash m n lt x y)
@@ -37,7 +37,7 @@ ended_apart most_depth targets placed m n a x y = go (cases_lt m n) (cases_lt n 
 
 -- ---- the stored answers of a listing arrived apart
 
-pub target_lines : (l : Listing) → IsListing l → (n : ℕ) (target : Target) → slice_get l.targets n ≡ Some target → IsLine (TargetLine target)
+pub target_lines : (l : Listing) → IsListing l → (n : ℕ) (target : ListedTarget) → slice_get l.targets n ≡ Some target → IsLine (TargetLine target)
 target_lines l h n target is =
     let lines = texts.all_front IsLine (map TargetLine l.targets) _ (texts.all_back IsLine (rule_lines l.version l.rules) _ h.lines.1) in
     all_at IsLine (map TargetLine l.targets) lines n (TargetLine target) (slice_get-map TargetLine l.targets n ∙ ap (option_map TargetLine) is)
@@ -48,7 +48,7 @@ score_within end score h e = grind arith
 arrivals : (l : Listing) → IsListing l → AreBranches l → AreArrivals (rows_of l.targets) (suc most_arrival)
 arrivals l h branches = record { past = past; apart = apart }
   where
-    placed : (n : ℕ) (target : Target) → slice_get l.targets n ≡ Some target → IsInPlace l.rules.depth l.targets n target
+    placed : (n : ℕ) (target : ListedTarget) → slice_get l.targets n ≡ Some target → IsInPlace l.rules.depth l.targets n target
     placed n target is = branches n (slice_get_within l.targets n target is) target is
 
     past : (m : ℕ) (score : Score) → HasScore (rows_of l.targets) m score → score.arrival < suc most_arrival

@@ -50,10 +50,10 @@ pub use Rattle.fork_listing.specs.Reading.{read_count, read_end, read_line, read
 pub use Rattle.fork_listing.specs.Spelled.{IsEnd, IsFinalLine, IsHow, IsLine, IsListing, IsNumberOrNone, IsRankLine, IsStatus, IsTargetLine}
 pub use Rattle.fork_listing.specs.Targets.{Follows, FollowsTarget, HasDepth, IsBefore, IsEarlier, IsInPlace, IsParent, IsPlaced, arrival_of, ended_at, is_redirected, is_redirection, line_before}
 pub use Rattle.fork_listing.specs.Text.{Draft, Listing, drafted_line, in_phase, lines_text, listing_in, listing_text, no_draft, or_line, read_from, read_listing, rule_lines, drafted, finished_draft}
-pub use Rattle.fork_listing.specs.declared.draft.Phase.{Phase}
+pub use Rattle.fork_listing.specs.declared.draft.ListingPhase.{ListingPhase}
 pub use Rattle.fork_listing.specs.declared.line.Final.{Final}
 pub use Rattle.fork_listing.specs.declared.line.Ranked.{Ranked}
-pub use Rattle.fork_listing.specs.declared.line.Target.{Target}
+pub use Rattle.fork_listing.specs.declared.line.ListedTarget.{ListedTarget}
 pub use Rattle.fork_listing.specs.declared.line.Version.{Version}
 pub use Rattle.fork_listing.specs.declared.line.Version.TheVariants.{First, Second, Third}
 pub use Rattle.fork_listing.specs.declared.refusal.Verdict.{Verdict}

@@ -1,6 +1,6 @@
 -- The line of the answer that goes up, by the first of those stored.
 use Rattle.fork_listing.proofs.Common.{◌≡◌, ℕ, Bool, true, false, cond, eqb, List, Option, Some, None, refl, sym, ap, ◌∙◌, slice_get, option_map, eqb-true, eq-eqb, false≢true, Rules, Row, Score, Choice, Best, Only503, NoAnswer408, IsChoice}
-use Rattle.fork_listing.proofs.Common.{stored_at, status_at, BestRef, IsBest, Target, Final, rows_of, final_of, IsChosen, IsNotChosen, arith}
+use Rattle.fork_listing.proofs.Common.{stored_at, status_at, BestRef, IsBest, ListedTarget, Final, rows_of, final_of, IsChosen, IsNotChosen, arith}
 use Rattle.std.specs.Option.{option_map_or}
 use Rattle.fork_model.specs.Table.{StoredAnswer}
 use Rattle.fork_model.specs.Choice as model
@@ -33,8 +33,8 @@ chosen_by rules rows (Some first) is = at (eqb first.status 503) refl
       ap (λ t. cond t (line 500) (line first.status)) e ∙ ap line (sym status),
     )
 
-pub is_chosen : (rules : Rules) (targets : List Target) (best : Option BestRef) (last : Final) → IsBest rules (rows_of targets) best → last ≡ final_of_best best → IsChosen rules targets last
+pub is_chosen : (rules : Rules) (targets : List ListedTarget) (best : Option BestRef) (last : Final) → IsBest rules (rows_of targets) best → last ≡ final_of_best best → IsChosen rules targets last
 is_chosen rules targets best last is e = let h = chosen_by rules (rows_of targets) best is in (h.0, h.1, e ∙ h.2)
 
-pub not_chosen : (rules : Rules) (targets : List Target) (best : Option BestRef) (last : Final) → IsBest rules (rows_of targets) best → (last ≡ final_of_best best → ⊥) → IsNotChosen rules targets last
+pub not_chosen : (rules : Rules) (targets : List ListedTarget) (best : Option BestRef) (last : Final) → IsBest rules (rows_of targets) best → (last ≡ final_of_best best → ⊥) → IsNotChosen rules targets last
 not_chosen rules targets best last is e = let h = chosen_by rules (rows_of targets) best is in (h.0, h.1, (λ same. e (same ∙ sym h.2)))

@@ -1,6 +1,6 @@
 -- One branch ends, and others may come to stand under it: the branches still stand as they may.
 use Rattle.fork_listing.proofs.Common.{◌≡◌, ◌≢◌, ℕ, zero, suc, ◌+◌, ◌<◌, ◌≤◌, true, false, List, [], ◌∷◌, ◌++◌, length, Option, Some, None, refl, sym, ap, subst, ◌∙◌, arith, inl, inr, ◌⊎◌, slice_get, option_and_then, End, Stored, Taken, Never}
-use Rattle.fork_listing.proofs.Common.{Target, arrival_of, ended_at, is_redirection, is_redirected, IsParent, IsBefore, Follows, FollowsTarget, line_before, IsEarlier, HasDepth, IsInPlace, IsStatus, IsHow, most_q, some_same, none_some}
+use Rattle.fork_listing.proofs.Common.{ListedTarget, arrival_of, ended_at, is_redirection, is_redirected, IsParent, IsBefore, Follows, FollowsTarget, line_before, IsEarlier, HasDepth, IsInPlace, IsStatus, IsHow, most_q, some_same, none_some}
 use Rattle.fork_listing.proofs.Common.{slice_get_within, there, looked, cases_eq}
 
 -- what a stored answer keeps
@@ -9,30 +9,30 @@ IsKept (Stored status arrival received) = IsStatus status × IsHow received stat
 IsKept end = Unit {0}
 
 -- the branches stand as they may, and each that has ended did so before this position
-pub record IsGrown (most_depth : ℕ) (targets : List Target) (at : ℕ) : Type 0 where
-  pub placed : (n : ℕ) (target : Target) → slice_get targets n ≡ Some target → IsInPlace most_depth targets n target
+pub record IsGrown (most_depth : ℕ) (targets : List ListedTarget) (at : ℕ) : Type 0 where
+  pub placed : (n : ℕ) (target : ListedTarget) → slice_get targets n ≡ Some target → IsInPlace most_depth targets n target
   pub past : (n a : ℕ) → ended_at targets n ≡ Some a → a < at
-  pub kept : (n : ℕ) (target : Target) → slice_get targets n ≡ Some target → (target.q ≤ most_q) × IsKept target.end
+  pub kept : (n : ℕ) (target : ListedTarget) → slice_get targets n ≡ Some target → (target.q ≤ most_q) × IsKept target.end
 
 -- the line at a place with another end
-abbrev pub with_end : List Target → ℕ → End → List Target
+abbrev pub with_end : List ListedTarget → ℕ → End → List ListedTarget
 with_end [] n end = []
 with_end (target ∷ targets) zero end = record target { end = end } ∷ targets
 with_end (target ∷ targets) (suc n) end = target ∷ with_end targets n end
 
 -- ---- where a line of the longer list comes from
 
-pub data From (old fresh : List Target) (n : ℕ) (end : End) (m : ℕ) (target : Target) : Type 0 where
+pub data From (old fresh : List ListedTarget) (n : ℕ) (end : End) (m : ℕ) (target : ListedTarget) : Type 0 where
   Old : slice_get old m ≡ Some target → m ≢ n → From old fresh n end m target
-  Here : (was : Target) → slice_get old m ≡ Some was → m ≡ n → target ≡ record was { end = end } → From old fresh n end m target
+  Here : (was : ListedTarget) → slice_get old m ≡ Some was → m ≡ n → target ≡ record was { end = end } → From old fresh n end m target
   New : (k : ℕ) → m ≡ length old + k → slice_get fresh k ≡ Some target → From old fresh n end m target
 
-lift : (x : Target) (old fresh : List Target) (n : ℕ) (end : End) (m : ℕ) (target : Target) → From old fresh n end m target → From (x ∷ old) fresh (suc n) end (suc m) target
+lift : (x : ListedTarget) (old fresh : List ListedTarget) (n : ℕ) (end : End) (m : ℕ) (target : ListedTarget) → From old fresh n end m target → From (x ∷ old) fresh (suc n) end (suc m) target
 lift x old fresh n end m target (Old is other) = Old is (λ e. other (let h : m ≡ n = omega arith in h))
 lift x old fresh n end m target (Here was is same by) = Here was is (ap suc same) by
 lift x old fresh n end m target (New k at is) = New k (let e : suc m ≡ length (x ∷ old) + k = omega arith in e) is
 
-behind : (x : Target) (old fresh : List Target) (end : End) (m : ℕ) (target : Target) → slice_get (old ++ fresh) m ≡ Some target → From (x ∷ old) fresh 0 end (suc m) target
+behind : (x : ListedTarget) (old fresh : List ListedTarget) (end : End) (m : ℕ) (target : ListedTarget) → slice_get (old ++ fresh) m ≡ Some target → From (x ∷ old) fresh 0 end (suc m) target
 behind x [] fresh end m target is = New m (let e : suc m ≡ length (x ∷ []) + m = omega arith in e) is
 behind x (y ∷ old) fresh end zero target is = Old is (λ e. absurd (let h : suc zero ≡ zero = e in omega arith))
 behind x (y ∷ old) fresh end (suc m) target is = go (behind y old fresh end m target is)
@@ -42,28 +42,28 @@ behind x (y ∷ old) fresh end (suc m) target is = go (behind y old fresh end m 
     go (Here was is same by) = absurd (let h : suc m ≡ zero = same in omega arith)
     go (New k at is) = New k (let e : suc (suc m) ≡ length (x ∷ y ∷ old) + k = omega arith in e) is
 
-pub from_new : (old fresh : List Target) (n : ℕ) (end : End) (m : ℕ) (target : Target) → slice_get (with_end old n end ++ fresh) m ≡ Some target → From old fresh n end m target
+pub from_new : (old fresh : List ListedTarget) (n : ℕ) (end : End) (m : ℕ) (target : ListedTarget) → slice_get (with_end old n end ++ fresh) m ≡ Some target → From old fresh n end m target
 from_new [] fresh n end m target is = New m (let e : m ≡ 0 + m = omega arith in e) is
 from_new (x ∷ old) fresh zero end zero target is = Here x refl refl (sym (some_same is))
 from_new (x ∷ old) fresh zero end (suc m) target is = behind x old fresh end m target is
 from_new (x ∷ old) fresh (suc n) end zero target is = Old is (λ e. absurd (let h : zero ≡ suc n = e in omega arith))
 from_new (x ∷ old) fresh (suc n) end (suc m) target is = lift x old fresh n end m target (from_new old fresh n end m target is)
 
-front_stays : (old fresh : List Target) (m : ℕ) (target : Target) → slice_get old m ≡ Some target → slice_get (old ++ fresh) m ≡ Some target
+front_stays : (old fresh : List ListedTarget) (m : ℕ) (target : ListedTarget) → slice_get old m ≡ Some target → slice_get (old ++ fresh) m ≡ Some target
 front_stays [] fresh m target is = absurd (none_some is)
 front_stays (x ∷ old) fresh zero target is = is
 front_stays (x ∷ old) fresh (suc m) target is = front_stays old fresh m target is
 
-other_stays : (old fresh : List Target) (n : ℕ) (end : End) (m : ℕ) (target : Target) → slice_get old m ≡ Some target → m ≢ n → slice_get (with_end old n end ++ fresh) m ≡ Some target
+other_stays : (old fresh : List ListedTarget) (n : ℕ) (end : End) (m : ℕ) (target : ListedTarget) → slice_get old m ≡ Some target → m ≢ n → slice_get (with_end old n end ++ fresh) m ≡ Some target
 other_stays [] fresh n end m target is other = absurd (none_some is)
 other_stays (x ∷ old) fresh zero end zero target is other = absurd (other refl)
 other_stays (x ∷ old) fresh zero end (suc m) target is other = front_stays old fresh m target is
 other_stays (x ∷ old) fresh (suc n) end zero target is other = is
 other_stays (x ∷ old) fresh (suc n) end (suc m) target is other = other_stays old fresh n end m target is (λ e. other (ap suc e))
 
-here_ends : (old fresh : List Target) (n : ℕ) (end : End) (was : Target) → slice_get old n ≡ Some was → slice_get (with_end old n end ++ fresh) n ≡ Some (record was { end = end })
+here_ends : (old fresh : List ListedTarget) (n : ℕ) (end : End) (was : ListedTarget) → slice_get old n ≡ Some was → slice_get (with_end old n end ++ fresh) n ≡ Some (record was { end = end })
 here_ends [] fresh n end was is = absurd (none_some is)
-here_ends (x ∷ old) fresh zero end was is = ap (λ (t : Target). Some (record t { end = end })) (some_same is)
+here_ends (x ∷ old) fresh zero end was is = ap (λ (t : ListedTarget). Some (record t { end = end })) (some_same is)
 here_ends (x ∷ old) fresh (suc n) end was is = here_ends old fresh n end was is
 
 -- a redirection has an arrival
@@ -72,48 +72,48 @@ redirection_ends (Stored status arrival received) e = (arrival, refl)
 redirection_ends (Taken arrival) e = (arrival, refl)
 redirection_ends end e = absurd cc
 
-pub redirected_ends : (targets : List Target) (p : ℕ) → is_redirected (slice_get targets p) ≡ true → (a : ℕ) × (ended_at targets p ≡ Some a)
+pub redirected_ends : (targets : List ListedTarget) (p : ℕ) → is_redirected (slice_get targets p) ≡ true → (a : ℕ) × (ended_at targets p ≡ Some a)
 redirected_ends targets p e = grind (arith, redirection_ends)
 
 -- what is known where a branch ends
-pub record Ends (most_depth : ℕ) (old fresh : List Target) (n at : ℕ) (was : Target) (end : End) : Type 0 where
+pub record Ends (most_depth : ℕ) (old fresh : List ListedTarget) (n at : ℕ) (was : ListedTarget) (end : End) : Type 0 where
   pub there : slice_get old n ≡ Some was
   pub open_yet : was.end ≡ Never
   pub arrival : (a : ℕ) → arrival_of end ≡ Some a → a ≡ at
   pub keeps : IsKept end
-  pub number : (k : ℕ) (f : Target) → slice_get fresh k ≡ Some f → f.number ≡ length old + k
-  pub parent : (k : ℕ) (f : Target) → slice_get fresh k ≡ Some f → f.parent ≡ Some n
-  pub waits : (k : ℕ) (f : Target) → slice_get fresh k ≡ Some f → f.end ≡ Never
-  pub small : (k : ℕ) (f : Target) → slice_get fresh k ≡ Some f → f.q ≤ most_q
-  pub redirects : (k : ℕ) (f : Target) → slice_get fresh k ≡ Some f → is_redirection end ≡ true
-  pub shallow : (k : ℕ) (f : Target) → slice_get fresh k ≡ Some f → (deep : ℕ) → HasDepth old was.parent deep → suc deep ≤ most_depth
-  pub falls : (j k : ℕ) (f g : Target) → j < k → slice_get fresh j ≡ Some f → slice_get fresh k ≡ Some g → g.q ≤ f.q
+  pub number : (k : ℕ) (f : ListedTarget) → slice_get fresh k ≡ Some f → f.number ≡ length old + k
+  pub parent : (k : ℕ) (f : ListedTarget) → slice_get fresh k ≡ Some f → f.parent ≡ Some n
+  pub waits : (k : ℕ) (f : ListedTarget) → slice_get fresh k ≡ Some f → f.end ≡ Never
+  pub small : (k : ℕ) (f : ListedTarget) → slice_get fresh k ≡ Some f → f.q ≤ most_q
+  pub redirects : (k : ℕ) (f : ListedTarget) → slice_get fresh k ≡ Some f → is_redirection end ≡ true
+  pub shallow : (k : ℕ) (f : ListedTarget) → slice_get fresh k ≡ Some f → (deep : ℕ) → HasDepth old was.parent deep → suc deep ≤ most_depth
+  pub falls : (j k : ℕ) (f g : ListedTarget) → j < k → slice_get fresh j ≡ Some f → slice_get fresh k ≡ Some g → g.q ≤ f.q
 
-module _ {most_depth n at : ℕ} {old fresh : List Target} {was : Target} {end : End} (grown : IsGrown most_depth old at) (ends : Ends most_depth old fresh n at was end) where
-  abbrev now : List Target
+module _ {most_depth n at : ℕ} {old fresh : List ListedTarget} {was : ListedTarget} {end : End} (grown : IsGrown most_depth old at) (ends : Ends most_depth old fresh n at was end) where
+  abbrev now : List ListedTarget
   now = with_end old n end ++ fresh
 
   ended_before : (m a : ℕ) → ended_at old m ≡ Some a → m ≢ n
   ended_before m a e same =
       let here : slice_get old m ≡ Some was = ap (slice_get old) same ∙ ends.there in
-      let never : ended_at old m ≡ None = ap (option_and_then (λ (t : Target). arrival_of t.end)) here ∙ ap arrival_of ends.open_yet in
+      let never : ended_at old m ≡ None = ap (option_and_then (λ (t : ListedTarget). arrival_of t.end)) here ∙ ap arrival_of ends.open_yet in
       none_some (sym never ∙ e)
 
   -- an end stays
   ended_yet : (m a : ℕ) → ended_at old m ≡ Some a → ended_at now m ≡ Some a
   ended_yet m a e =
-      let s = looked (λ (t : Target). arrival_of t.end) (slice_get old m) e in
-      ap (option_and_then (λ (t : Target). arrival_of t.end)) (other_stays old fresh n end m s.0 s.1 (ended_before m a e)) ∙ s.2
+      let s = looked (λ (t : ListedTarget). arrival_of t.end) (slice_get old m) e in
+      ap (option_and_then (λ (t : ListedTarget). arrival_of t.end)) (other_stays old fresh n end m s.0 s.1 (ended_before m a e)) ∙ s.2
 
   -- and each is one of before or of this position
   ended_from : (m a : ℕ) → ended_at now m ≡ Some a → ((m ≡ n) × (a ≡ at)) ⊎ (ended_at old m ≡ Some a)
   ended_from m a e =
-      let s = looked (λ (t : Target). arrival_of t.end) (slice_get now m) e in
+      let s = looked (λ (t : ListedTarget). arrival_of t.end) (slice_get now m) e in
       by s.0 (from_new old fresh n end m s.0 s.1) s.2
     where
-      by : (target : Target) → From old fresh n end m target → arrival_of target.end ≡ Some a → ((m ≡ n) × (a ≡ at)) ⊎ (ended_at old m ≡ Some a)
-      by target (Old is other) e = inr (ap (option_and_then (λ (t : Target). arrival_of t.end)) is ∙ e)
-      by target (Here before is same made) e = inl (same, ends.arrival a (ap (λ (t : Target). arrival_of t.end) (sym made) ∙ e))
+      by : (target : ListedTarget) → From old fresh n end m target → arrival_of target.end ≡ Some a → ((m ≡ n) × (a ≡ at)) ⊎ (ended_at old m ≡ Some a)
+      by target (Old is other) e = inr (ap (option_and_then (λ (t : ListedTarget). arrival_of t.end)) is ∙ e)
+      by target (Here before is same made) e = inl (same, ends.arrival a (ap (λ (t : ListedTarget). arrival_of t.end) (sym made) ∙ e))
       by target (New k place is) e = absurd (none_some (ap arrival_of (sym (ends.waits k target is)) ∙ e))
 
   not_redirected : is_redirected (slice_get old n) ≡ true → ⊥
@@ -125,19 +125,19 @@ module _ {most_depth n at : ℕ} {old fresh : List Target} {was : Target} {end :
   redirected_yet : (p : ℕ) → is_redirected (slice_get old p) ≡ true → is_redirected (slice_get now p) ≡ true
   redirected_yet p e = go (slice_get old p) refl e
     where
-      go : (o : Option Target) → slice_get old p ≡ o → is_redirected o ≡ true → is_redirected (slice_get now p) ≡ true
+      go : (o : Option ListedTarget) → slice_get old p ≡ o → is_redirected o ≡ true → is_redirected (slice_get now p) ≡ true
       go None is e = absurd cc
       go (Some target) is e =
           let other : p ≢ n = λ same. not_redirected (ap (λ m. is_redirected (slice_get old m)) (sym same) ∙ ap is_redirected is ∙ e) in
           ap is_redirected (other_stays old fresh n end p target is other) ∙ e
 
   -- the line of before stands there still, with its number, parent and q
-  record Stays (m : ℕ) (target : Target) : Type 0 where
-    line : Target
+  record Stays (m : ℕ) (target : ListedTarget) : Type 0 where
+    line : ListedTarget
     there : slice_get now m ≡ Some line
     parent : line.parent ≡ target.parent
 
-  stays : (m : ℕ) (target : Target) → slice_get old m ≡ Some target → Stays m target
+  stays : (m : ℕ) (target : ListedTarget) → slice_get old m ≡ Some target → Stays m target
   stays m target is = go (cases_eq m n)
     where
       go : (m ≡ n) ⊎ (m ≢ n) → Stays m target
@@ -173,23 +173,23 @@ module _ {most_depth n at : ℕ} {old fresh : List Target} {was : Target} {end :
   old_follows (Some a) (Some b) (inr earlier) = inr (before_yet a b earlier)
 
   -- the line before one that stood before stood there too
-  old_before : (m : ℕ) (target : Target) (parent : Option ℕ) → slice_get old m ≡ Some target → FollowsTarget old (line_before old m) parent → FollowsTarget now (line_before now m) parent
+  old_before : (m : ℕ) (target : ListedTarget) (parent : Option ℕ) → slice_get old m ≡ Some target → FollowsTarget old (line_before old m) parent → FollowsTarget now (line_before now m) parent
   old_before zero target parent is h = tt
   old_before (suc m) target parent is h =
       let b = there old m (omega (arith, slice_get_within old (suc m) target is)) in
       let yet = stays m b.0 b.1 in
-      let follows = old_follows b.0.parent parent (subst (λ (o : Option Target). FollowsTarget old o parent) b.1 h) in
-      subst (λ (o : Option Target). FollowsTarget now o parent) (sym yet.there) (subst (λ (o : Option ℕ). Follows now o parent) (sym yet.parent) follows)
+      let follows = old_follows b.0.parent parent (subst (λ (o : Option ListedTarget). FollowsTarget old o parent) b.1 h) in
+      subst (λ (o : Option ListedTarget). FollowsTarget now o parent) (sym yet.there) (subst (λ (o : Option ℕ). Follows now o parent) (sym yet.parent) follows)
 
-  old_falls : (m : ℕ) (target : Target) (q : ℕ) (parent : Option ℕ) → slice_get old m ≡ Some target
-      → ((j : ℕ) (other : Target) → j < m → slice_get old j ≡ Some other → other.parent ≡ parent → q ≤ other.q)
-      → (j : ℕ) (other : Target) → j < m → slice_get now j ≡ Some other → other.parent ≡ parent → q ≤ other.q
+  old_falls : (m : ℕ) (target : ListedTarget) (q : ℕ) (parent : Option ℕ) → slice_get old m ≡ Some target
+      → ((j : ℕ) (other : ListedTarget) → j < m → slice_get old j ≡ Some other → other.parent ≡ parent → q ≤ other.q)
+      → (j : ℕ) (other : ListedTarget) → j < m → slice_get now j ≡ Some other → other.parent ≡ parent → q ≤ other.q
   old_falls m target q parent is h j other lt there_now same = go (from_new old fresh n end j other there_now)
     where
       go : From old fresh n end j other → q ≤ other.q
       go (Old was_there differs) = h j other lt was_there same
       go (Here before was_there place made) =
-          omega (arith, ap (λ (t : Target). t.q) made, h j before lt was_there (ap (λ (t : Target). t.parent) (sym made) ∙ same))
+          omega (arith, ap (λ (t : ListedTarget). t.q) made, h j before lt was_there (ap (λ (t : ListedTarget). t.parent) (sym made) ∙ same))
       go (New k place new_there) = absurd (omega (arith, lt, place, slice_get_within old m target is))
 
   -- where the parent was redirected, it has ended, and has now by the same event
@@ -215,7 +215,7 @@ module _ {most_depth n at : ℕ} {old fresh : List Target} {was : Target} {end :
       by None is_at x less = tt
       by (Some a) is_at x less = let same : a ≡ at = is_at a refl in omega arith
 
-  placed_old : (m : ℕ) (target : Target) → slice_get old m ≡ Some target → m ≢ n → IsInPlace most_depth now m target
+  placed_old : (m : ℕ) (target : ListedTarget) → slice_get old m ≡ Some target → m ≢ n → IsInPlace most_depth now m target
   placed_old m target is other =
       let h = grown.placed m target is in
       record {
@@ -231,11 +231,11 @@ module _ {most_depth n at : ℕ} {old fresh : List Target} {was : Target} {end :
       apart : IsInPlace most_depth old m target → (j a : ℕ) → j < m → ended_at now j ≡ Some a → arrival_of target.end ≡ Some a → ⊥
       apart h j a lt e mine =
           elim (ended_from j a e) [
-            | inl now_ended ↦ omega (arith, now_ended.1, grown.past m a (ap (option_and_then (λ (t : Target). arrival_of t.end)) is ∙ mine))
+            | inl now_ended ↦ omega (arith, now_ended.1, grown.past m a (ap (option_and_then (λ (t : ListedTarget). arrival_of t.end)) is ∙ mine))
             | inr ended ↦ h.apart j a lt ended mine
           ]
 
-  placed_here : (target before : Target) → slice_get old n ≡ Some before → target ≡ record before { end = end } → IsInPlace most_depth now n target
+  placed_here : (target before : ListedTarget) → slice_get old n ≡ Some before → target ≡ record before { end = end } → IsInPlace most_depth now n target
   placed_here target before is made =
       let h = grown.placed n before is in
       subst (IsInPlace most_depth now n) (sym made) (record {
@@ -257,13 +257,13 @@ module _ {most_depth n at : ℕ} {old fresh : List Target} {was : Target} {end :
 
   -- ---- the rules of a line that is new
 
-  module _ (k : ℕ) (target : Target) (new_there : slice_get fresh k ≡ Some target) where
+  module _ (k : ℕ) (target : ListedTarget) (new_there : slice_get fresh k ≡ Some target) where
     ended_now : (a : ℕ) × (ended_at now n ≡ Some a) × (a ≡ at)
     ended_now =
         let x = redirection_ends end (ends.redirects k target new_there) in
-        (x.0, ap (option_and_then (λ (t : Target). arrival_of t.end)) (here_ends old fresh n end was ends.there) ∙ x.1, ends.arrival x.0 x.1)
+        (x.0, ap (option_and_then (λ (t : ListedTarget). arrival_of t.end)) (here_ends old fresh n end was ends.there) ∙ x.1, ends.arrival x.0 x.1)
 
-    new_follows : (m : ℕ) (b : Target) → slice_get now m ≡ Some b → Follows now b.parent (Some n)
+    new_follows : (m : ℕ) (b : ListedTarget) → slice_get now m ≡ Some b → Follows now b.parent (Some n)
     new_follows m b is = go (from_new old fresh n end m b is)
       where
         behind_old : (j : ℕ) (parent : Option ℕ) → IsParent old j parent → Follows now parent (Some n)
@@ -277,28 +277,28 @@ module _ {most_depth n at : ℕ} {old fresh : List Target} {was : Target} {end :
         go : From old fresh n end m b → Follows now b.parent (Some n)
         go (Old was_there other) = behind_old m b.parent (grown.placed m b was_there).parent
         go (Here before was_there place made) =
-            subst (λ (t : Target). Follows now t.parent (Some n)) (sym made) (behind_old m before.parent (grown.placed m before was_there).parent)
+            subst (λ (t : ListedTarget). Follows now t.parent (Some n)) (sym made) (behind_old m before.parent (grown.placed m before was_there).parent)
         go (New i place is_new) = subst (λ (o : Option ℕ). Follows now o (Some n)) (sym (ends.parent i b is_new)) (inl refl)
 
     new_before : (m : ℕ) → FollowsTarget now (line_before now m) (Some n)
     new_before zero = tt
     new_before (suc m) = go (slice_get now m) refl
       where
-        go : (o : Option Target) → slice_get now m ≡ o → FollowsTarget now o (Some n)
+        go : (o : Option ListedTarget) → slice_get now m ≡ o → FollowsTarget now o (Some n)
         go None is = tt
         go (Some b) is = new_follows m b is
 
-    new_falls : (m j : ℕ) (other : Target) → m ≡ length old + k → j < m → slice_get now j ≡ Some other → other.parent ≡ Some n → target.q ≤ other.q
+    new_falls : (m j : ℕ) (other : ListedTarget) → m ≡ length old + k → j < m → slice_get now j ≡ Some other → other.parent ≡ Some n → target.q ≤ other.q
     new_falls m j other place lt is under = go (from_new old fresh n end j other is)
       where
-        no_child : (i : ℕ) (t : Target) → slice_get old i ≡ Some t → t.parent ≡ Some n → ⊥
+        no_child : (i : ℕ) (t : ListedTarget) → slice_get old i ≡ Some t → t.parent ≡ Some n → ⊥
         no_child i t there_old parents =
             let h : IsParent old i (Some n) = subst (IsParent old i) parents (grown.placed i t there_old).parent in
             not_redirected h.1
 
         go : From old fresh n end j other → target.q ≤ other.q
         go (Old was_there differs) = absurd (no_child j other was_there under)
-        go (Here before was_there same made) = absurd (no_child j before was_there (ap (λ (t : Target). t.parent) (sym made) ∙ under))
+        go (Here before was_there same made) = absurd (no_child j before was_there (ap (λ (t : ListedTarget). t.parent) (sym made) ∙ under))
         go (New i at_place is_new) = ends.falls i k other target (let less : i < k = omega arith in less) is_new new_there
 
     placed_new : (m : ℕ) → m ≡ length old + k → IsInPlace most_depth now m target
@@ -339,7 +339,7 @@ module _ {most_depth n at : ℕ} {old fresh : List Target} {was : Target} {end :
     kept = λ m target is. keeps m target (from_new old fresh n end m target is);
   }
     where
-      placed : (m : ℕ) (target : Target) → From old fresh n end m target → IsInPlace most_depth now m target
+      placed : (m : ℕ) (target : ListedTarget) → From old fresh n end m target → IsInPlace most_depth now m target
       placed m target (Old is other) = placed_old m target is other
       placed m target (Here before is same made) =
           let moved : slice_get old n ≡ Some before = ap (slice_get old) (sym same) ∙ is in
@@ -353,12 +353,12 @@ module _ {most_depth n at : ℕ} {old fresh : List Target} {was : Target} {end :
             | inr ended ↦ omega (arith, grown.past m a ended)
           ]
 
-      keeps : (m : ℕ) (target : Target) → From old fresh n end m target → (target.q ≤ most_q) × IsKept target.end
+      keeps : (m : ℕ) (target : ListedTarget) → From old fresh n end m target → (target.q ≤ most_q) × IsKept target.end
       keeps m target (Old is other) = grown.kept m target is
       keeps m target (Here before is same made) =
-          subst (λ (t : Target). (t.q ≤ most_q) × IsKept t.end) (sym made) ((grown.kept m before is).0, ends.keeps)
+          subst (λ (t : ListedTarget). (t.q ≤ most_q) × IsKept t.end) (sym made) ((grown.kept m before is).0, ends.keeps)
       keeps m target (New k place is) = (ends.small k target is, subst IsKept (sym (ends.waits k target is)) tt)
 
 -- nothing has ended later than before
-pub waits_on : (most_depth : ℕ) (targets : List Target) (at : ℕ) → IsGrown most_depth targets at → IsGrown most_depth targets (suc at)
+pub waits_on : (most_depth : ℕ) (targets : List ListedTarget) (at : ℕ) → IsGrown most_depth targets at → IsGrown most_depth targets (suc at)
 waits_on most_depth targets at grown = grind arith

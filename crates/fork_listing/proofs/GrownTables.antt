@@ -1,6 +1,6 @@
 -- The rows of every fork, shown as they would be listed, stand as they may.
 use Rattle.fork_listing.proofs.Common.{◌≡◌, ℕ, zero, suc, ◌+◌, ◌<◌, ◌≤◌, Bool, true, false, cond, List, [], ◌∷◌, ◌++◌, map, length, Option, Some, None, refl, sym, ap, subst, ◌∙◌, arith, inl, inr, slice_get, option_and_then, not, nat_lt, ◌&&◌}
-use Rattle.fork_listing.proofs.Common.{option_map, AllByRecursion, ltb-true, Kind, Rules, Offer, Row, Table, State, Idle, Trying, Rung, Ended, Event, Core, opening_core, core_offered, core_after, End, Target, arrival_of, is_redirection, IsParent}
+use Rattle.fork_listing.proofs.Common.{option_map, AllByRecursion, ltb-true, Kind, Rules, Offer, Row, Table, State, Idle, Trying, Rung, Ended, Event, Core, opening_core, core_offered, core_after, End, ListedTarget, arrival_of, is_redirection, IsParent}
 use Rattle.fork_listing.proofs.Common.{HasDepth, most_q, IsStatus, targets_from, targets_of, some_same, none_some, slice_get_within, AreArrivals, all_at, looked, mapped, most_targets, ◌≢◌, common_steps, rules}
 use Rattle.std.proofs.lemmas.Bool.{ltb-false, or_parts}
 use Rattle.fork_model.specs.Table.{Taken, is_invite}
@@ -26,7 +26,7 @@ use Rattle.fork_listing.proofs.Growing.{IsKept, IsGrown, with_end, grows, waits_
 abbrev pub seen : State → End
 seen state = state_shown (shown state)
 
-abbrev pub line_at : ℕ → Row → Target
+abbrev pub line_at : ℕ → Row → ListedTarget
 line_at n row = record { number = n; parent = row.parent; q = row.q; end = seen row.state }
 
 pub line_get : (k : ℕ) (rows : List Row) (n m : ℕ) → m ≡ k + n → slice_get (targets_from k rows) n ≡ option_map (line_at m) (slice_get rows n)
@@ -34,13 +34,13 @@ line_get k [] n m e = refl
 line_get k (x ∷ rows) zero m e = let at : k ≡ m = omega arith in ap (λ i. Some (line_at i x)) at
 line_get k (x ∷ rows) (suc n) m e = line_get (suc k) rows n m (omega arith)
 
-pub get_row : (k : ℕ) (rows : List Row) (n : ℕ) (target : Target) → slice_get (targets_from k rows) n ≡ Some target → (row : Row) × (slice_get rows n ≡ Some row) × (target ≡ line_at (k + n) row)
+pub get_row : (k : ℕ) (rows : List Row) (n : ℕ) (target : ListedTarget) → slice_get (targets_from k rows) n ≡ Some target → (row : Row) × (slice_get rows n ≡ Some row) × (target ≡ line_at (k + n) row)
 get_row k rows n target is = mapped (line_at (k + n)) (slice_get rows n) (sym (line_get k rows n (k + n) refl) ∙ is)
 
 pub listed_row : (rows : List Row) (n : ℕ) (row : Row) → slice_get rows n ≡ Some row → slice_get (targets_of rows) n ≡ Some (line_at n row)
 listed_row rows n row is = line_get 0 rows n n (omega arith) ∙ ap (option_map (line_at n)) is
 
-pub row_listed : (rows : List Row) (n : ℕ) (target : Target) → slice_get (targets_of rows) n ≡ Some target → (row : Row) × (slice_get rows n ≡ Some row) × (target ≡ line_at n row)
+pub row_listed : (rows : List Row) (n : ℕ) (target : ListedTarget) → slice_get (targets_of rows) n ≡ Some target → (row : Row) × (slice_get rows n ≡ Some row) × (target ≡ line_at n row)
 row_listed rows n target is = mapped (line_at n) (slice_get rows n) (sym (line_get 0 rows n n (omega arith)) ∙ is)
 
 pub length-targets : (k : ℕ) (rows : List Row) → length (targets_from k rows) ≡ length rows
@@ -67,7 +67,7 @@ changed_from k (row ∷ rows) fresh (suc n) state = grind (arith, changed_from (
 
 -- ---- how deep a row stands
 
-shallower : (most_depth at : ℕ) (targets : List Target) → IsGrown most_depth targets at → (n : ℕ) (parent : Option ℕ) (deep : ℕ) → IsParent targets n parent → HasDepth targets parent deep → deep ≤ n
+shallower : (most_depth at : ℕ) (targets : List ListedTarget) → IsGrown most_depth targets at → (n : ℕ) (parent : Option ℕ) (deep : ℕ) → IsParent targets n parent → HasDepth targets parent deep → deep ≤ n
 shallower most_depth at targets grown n None zero under h = omega arith
 shallower most_depth at targets grown n (Some p) (suc deep) under h =
     omega (arith, under.0, shallower most_depth at targets grown p h.0.parent deep (grown.placed p h.0 h.1).parent h.2)
@@ -79,7 +79,7 @@ depth_seen rows zero (suc steps) None h le = refl
 depth_seen rows (suc deep) zero (Some p) h le = absurd (omega arith)
 depth_seen rows (suc deep) (suc steps) (Some p) h le =
     let r = row_listed rows p h.0 h.1 in
-    let has : HasDepth (targets_of rows) r.0.parent deep = subst (λ (x : Target). HasDepth (targets_of rows) x.parent deep) r.2 h.2 in
+    let has : HasDepth (targets_of rows) r.0.parent deep = subst (λ (x : ListedTarget). HasDepth (targets_of rows) x.parent deep) r.2 h.2 in
     ap (λ (o : Option Row). length (line_from (suc steps) rows o)) r.1 ∙ ap suc (depth_seen rows deep steps r.0.parent has (omega arith))
 depth_seen rows deep steps parent h le = absurd h
 
@@ -179,24 +179,24 @@ ending_grows : (t : Table) (n at : ℕ) (row : Row) (e : Effect) → IsGrownTabl
 ending_grows t n at row e grown is ends =
     let here = listed_row t.rows n row is in
     let same : targets_of (with_state t.rows n e.state ++ e.fresh) ≡ with_end (targets_of t.rows) n (seen e.state) ++ targets_from (0 + length t.rows) e.fresh = changed_from 0 t.rows e.fresh n e.state in
-    subst (λ (ts : List Target). IsGrown t.rules.depth ts (suc at)) (sym same) (grows grown (record {
+    subst (λ (ts : List ListedTarget). IsGrown t.rules.depth ts (suc at)) (sym same) (grows grown (record {
       there = here;
       open_yet = ends.open_yet;
       arrival = ends.arrival;
       keeps = ends.keeps;
       number = number;
-      parent = λ k f there. let r = get_row (0 + length t.rows) e.fresh k f there in ap (λ (x : Target). x.parent) r.2 ∙ ends.parent k r.0 r.1;
-      small = λ k f there. let r = get_row (0 + length t.rows) e.fresh k f there in subst (λ (x : Target). x.q ≤ most_q) (sym r.2) (ends.small k r.0 r.1);
-      waits = λ k f there. let r = get_row (0 + length t.rows) e.fresh k f there in ap (λ (x : Target). x.end) r.2 ∙ ap seen (ends.waits k r.0 r.1);
+      parent = λ k f there. let r = get_row (0 + length t.rows) e.fresh k f there in ap (λ (x : ListedTarget). x.parent) r.2 ∙ ends.parent k r.0 r.1;
+      small = λ k f there. let r = get_row (0 + length t.rows) e.fresh k f there in subst (λ (x : ListedTarget). x.q ≤ most_q) (sym r.2) (ends.small k r.0 r.1);
+      waits = λ k f there. let r = get_row (0 + length t.rows) e.fresh k f there in ap (λ (x : ListedTarget). x.end) r.2 ∙ ap seen (ends.waits k r.0 r.1);
       redirects = λ k f there. let r = get_row (0 + length t.rows) e.fresh k f there in ends.redirects k r.0 r.1;
       shallow = λ k f there deep has. let r = get_row (0 + length t.rows) e.fresh k f there in shallow deep has (ends.shallow k r.0 r.1);
       falls = falls;
     }))
   where
-    number : (k : ℕ) (f : Target) → slice_get (targets_from (0 + length t.rows) e.fresh) k ≡ Some f → f.number ≡ length (targets_of t.rows) + k
+    number : (k : ℕ) (f : ListedTarget) → slice_get (targets_from (0 + length t.rows) e.fresh) k ≡ Some f → f.number ≡ length (targets_of t.rows) + k
     number k f there =
         let r = get_row (0 + length t.rows) e.fresh k f there in
-        omega (arith, ap (λ (x : Target). x.number) r.2, length-targets 0 t.rows)
+        omega (arith, ap (λ (x : ListedTarget). x.number) r.2, length-targets 0 t.rows)
 
     shallow : (deep : ℕ) → HasDepth (targets_of t.rows) row.parent deep → depth_of t.rows row < t.rules.depth → suc deep ≤ t.rules.depth
     shallow deep has lt =
@@ -206,11 +206,11 @@ ending_grows t n at row e grown is ends =
         let same : depth_of t.rows row ≡ deep = depth_seen t.rows deep (length t.rows) row.parent has (omega arith) in
         omega arith
 
-    falls : (j k : ℕ) (f g : Target) → j < k → slice_get (targets_from (0 + length t.rows) e.fresh) j ≡ Some f → slice_get (targets_from (0 + length t.rows) e.fresh) k ≡ Some g → g.q ≤ f.q
+    falls : (j k : ℕ) (f g : ListedTarget) → j < k → slice_get (targets_from (0 + length t.rows) e.fresh) j ≡ Some f → slice_get (targets_from (0 + length t.rows) e.fresh) k ≡ Some g → g.q ≤ f.q
     falls j k f g lt a b =
         let r = get_row (0 + length t.rows) e.fresh j f a in
         let s = get_row (0 + length t.rows) e.fresh k g b in
-        omega (arith, ends.falls j k r.0 s.0 lt r.1 s.1, ap (λ (z : Target). z.q) r.2, ap (λ (z : Target). z.q) s.2)
+        omega (arith, ends.falls j k r.0 s.0 lt r.1 s.1, ap (λ (z : ListedTarget). z.q) r.2, ap (λ (z : ListedTarget). z.q) s.2)
 
 effect_grows : (t : Table) (at n : ℕ) (row : Row) → IsGrownTable t at → slice_get t.rows n ≡ Some row → (e : Option Effect) → MayEnd t n at row row.state e → MayGrow t at (option_map (with_effect t n) e)
 effect_grows t at n row grown is e ends = grind (arith, ending_grows)

@@ -1,6 +1,6 @@
 -- The listing of every fork is right.
 use Rattle.fork_listing.proofs.Common.{◌≡◌, ◌≢◌, ℕ, zero, suc, ◌≤◌, true, false, List, [], ◌∷◌, ◌++◌, map, length, Option, Some, None, refl, sym, ap, subst, ◌∙◌, arith, inl, inr, slice_get, option_and_then, option_map, AllByRecursion, Rules, Row}
-use Rattle.fork_listing.proofs.Common.{Table, State, most_targets, Score, Before, Choice, Best, Only503, NoAnswer408, IsChoice, IsFirst, stored_at, status_at, Core, opening_core, core_after, End, Target, Ranked, Verdict, Line, TargetLine, RankLine}
+use Rattle.fork_listing.proofs.Common.{Table, State, most_targets, Score, Before, Choice, Best, Only503, NoAnswer408, IsChoice, IsFirst, stored_at, status_at, Core, opening_core, core_after, End, ListedTarget, Ranked, Verdict, Line, TargetLine, RankLine}
 use Rattle.fork_listing.proofs.Common.{most_arrival, most_number, arrival_of, ended_at, IsParent, rows_of, score_of, score_in, score_at, RanksBehind, final_of, IsChosen, IsRanking, Listing, AreInOrder, AreListed, IsRight, verdict_of, targets_of}
 use Rattle.fork_listing.proofs.Common.{listing_of, IsListingOf, IsStatus, IsEnd, IsNumberOrNone, IsTargetLine, IsRankLine, IsFinalLine, IsLine, IsListing, IsRightText, AreArrivals, HasScore, some_same, none_some, slice_get_within, false≢true}
 use Rattle.fork_listing.proofs.Common.{get_or_from_slice_get, is_succeeded, common_steps, rules}
@@ -99,7 +99,7 @@ module _ (t : Table) (at : ℕ) (ranks : List Ranked) (choice : Choice) (arrival
 accepted_seen : (state : State) (a : ℕ) → seen state ≡ line_end.Accepted a → is_accepted state ≡ true
 accepted_seen state a e = grind arith
 
-none_accepted : (rows : List Row) → is_succeeded rows ≡ false → (n : ℕ) (target : Target) → slice_get (targets_of rows) n ≡ Some target → (a : ℕ) → target.end ≡ line_end.Accepted a → ⊥
+none_accepted : (rows : List Row) → is_succeeded rows ≡ false → (n : ℕ) (target : ListedTarget) → slice_get (targets_of rows) n ≡ Some target → (a : ℕ) → target.end ≡ line_end.Accepted a → ⊥
 none_accepted rows failed n target is a e =
     let r = row_listed rows n target is in
     grind (arith, common_steps, get_or_from_slice_get rows n r.0 r.0 r.1, slice_get_within rows n r.0 r.1, accepted_seen, false≢true, list_any_at)
@@ -116,10 +116,10 @@ all_map f [] each = tt
 all_map f (x ∷ xs) each = (each 0 x refl, all_map f xs (λ n y is. each (suc n) y is))
 
 module _ (t : Table) (at : ℕ) (ranks : List Ranked) (choice : Choice) (fit : IsFit t at) (ranking : IsRanking t.rules (targets_of t.rows) ranks) (chosen : IsChoice t.rules t.rows choice) (failed : is_succeeded t.rows ≡ false) where
-  abbrev targets : List Target
+  abbrev targets : List ListedTarget
   targets = targets_of t.rows
 
-  small : (n : ℕ) (target : Target) → slice_get targets n ≡ Some target → n ≤ most_number
+  small : (n : ℕ) (target : ListedTarget) → slice_get targets n ≡ Some target → n ≤ most_number
   small n target is =
       omega (arith, slice_get_within targets n target is, length-targets 0 t.rows, fit.few)
 
@@ -130,12 +130,12 @@ module _ (t : Table) (at : ℕ) (ranks : List Ranked) (choice : Choice) (fit : I
   parent_line n None le h = tt
   parent_line n (Some p) le h = omega (arith, h.0)
 
-  end_of_line : (n : ℕ) (target : Target) → slice_get targets n ≡ Some target → IsEnd target.end
+  end_of_line : (n : ℕ) (target : ListedTarget) → slice_get targets n ≡ Some target → IsEnd target.end
   end_of_line n target is =
       end_line target.end (fit.grown.kept n target is).1
-      (λ a e. soon n a (ap (option_and_then (λ (x : Target). arrival_of x.end)) is ∙ e)) (none_accepted t.rows failed n target is)
+      (λ a e. soon n a (ap (option_and_then (λ (x : ListedTarget). arrival_of x.end)) is ∙ e)) (none_accepted t.rows failed n target is)
 
-  target_line : (n : ℕ) (target : Target) → slice_get targets n ≡ Some target → IsTargetLine target
+  target_line : (n : ℕ) (target : ListedTarget) → slice_get targets n ≡ Some target → IsTargetLine target
   target_line n target is =
       let h = fit.grown.placed n target is in
       let number : target.number ≡ n = h.number in

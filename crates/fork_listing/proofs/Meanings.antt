@@ -1,6 +1,6 @@
 -- What a right listing tells.
 use Rattle.fork_listing.proofs.Common.{◌≡◌, ℕ, zero, suc, ◌<◌, List, [], ◌∷◌, Option, Some, Result, Ok, Err, refl, sym, ap, subst, ◌∙◌, arith, inl, inr, slice_get, option_and_then, option_map, Row, Score, Before, IsFirst, NoneStored, stored_at}
-use Rattle.fork_listing.proofs.Common.{Before-trans, Target, Ranked, Final, row_of, rows_of, score_of, score_in, score_at, RanksBehind, IsChosen, Listing, read_listing, AreInOrder, AreListed, IsChecked, verdict_of, FirstLineIs, slice_get-map, looked}
+use Rattle.fork_listing.proofs.Common.{Before-trans, ListedTarget, Ranked, Final, row_of, rows_of, score_of, score_in, score_at, RanksBehind, IsChosen, Listing, read_listing, AreInOrder, AreListed, IsChecked, verdict_of, FirstLineIs, slice_get-map, looked}
 use Rattle.fork_listing.proofs.Common.{some_same, cases, slice_get_within, there, ListedAreStored, common_steps}
 use Rattle.fork_model.specs.Choice as model
 use Rattle.fork_listing.specs.Meaning.{AreRanked, FinalIsFirst, TellsTheChoice, RightTellsTheChoice, AcceptedTellsTheChoice}
@@ -8,11 +8,11 @@ use Rattle.fork_listing.specs.Meaning.{AreRanked, FinalIsFirst, TellsTheChoice, 
 abbrev seen : Option Row → Option Score
 seen row = option_map model.score_of (stored_at row)
 
-score_seen : (o : Option Target) → seen (option_map row_of o) ≡ option_and_then (λ (t : Target). score_in t.end) o
+score_seen : (o : Option ListedTarget) → seen (option_map row_of o) ≡ option_and_then (λ (t : ListedTarget). score_in t.end) o
 score_seen o = grind arith
 
 -- the score in a row is that in its line
-pub same_score : (targets : List Target) (n : ℕ) → seen (slice_get (rows_of targets) n) ≡ score_at targets n
+pub same_score : (targets : List ListedTarget) (n : ℕ) → seen (slice_get (rows_of targets) n) ≡ score_at targets n
 same_score targets n = ap seen (slice_get-map row_of targets n) ∙ score_seen (slice_get targets n)
 
 one_line : (a b : Ranked) → a.number ≡ b.number → score_of a ≡ score_of b → a ≡ b
@@ -23,7 +23,7 @@ listed l order all = λ ranked. (
   (λ at. same_score l.targets ranked.number ∙ (order at.0 (slice_get_within l.ranks at.0 ranked at.1) ranked at.1).stored),
   (λ stored.
       let here : score_at l.targets ranked.number ≡ Some (score_of ranked) = sym (same_score l.targets ranked.number) ∙ stored in
-      let scored = looked (λ (target : Target). score_in target.end) (slice_get l.targets ranked.number) here in
+      let scored = looked (λ (target : ListedTarget). score_in target.end) (slice_get l.targets ranked.number) here in
       let h = all ranked.number (slice_get_within l.targets ranked.number scored.0 scored.1) (score_of ranked) here in
       let found : score_at l.targets h.1.number ≡ Some (score_of h.1) = (order h.0 (slice_get_within l.ranks h.0 h.1 h.2) h.1 h.2).stored in
       let one : score_of h.1 ≡ score_of ranked = some_same (sym found ∙ ap (score_at l.targets) h.3 ∙ here) in

@@ -1,14 +1,14 @@
 -- A line is read exactly where it is the spelling of a line.
 use Rattle.fork_listing.proofs.Common.{◌≡◌, ℕ, ◌≤◌, Bool, true, eqb, List, ◌∷◌, ◌++◌, Some, refl, ap, ◌∙◌, arith, not, codes, option_and_then, option_map, decimal, eqb-false, bytes_eq-Decides, Lacks, plain_number_within, most_targets, Version, End}
-use Rattle.fork_listing.proofs.Common.{Stored, Taken, Silent, Never, Target, Ranked, Final, Line, ForkLine, PreferLine, DepthLine, TargetLine, RankLine, FinalLine, version_text, number_text, how_text, end_text, line_text, most_arrival, most_listed}
+use Rattle.fork_listing.proofs.Common.{Stored, Taken, Silent, Never, ListedTarget, Ranked, Final, Line, ForkLine, PreferLine, DepthLine, TargetLine, RankLine, FinalLine, version_text, number_text, how_text, end_text, line_text, most_arrival, most_listed}
 use Rattle.fork_listing.proofs.Common.{most_q, most_number, before, read_status, read_parent, read_version, read_count, read_end, read_line, IsTargetLine, IsRankLine, IsFinalLine, IsLine, IsEnd, number_read, number_spelled, decimal_lacks, found_map}
 use Rattle.fork_listing.proofs.Common.{found_then, before_read, before_found}
 use Rattle.std.specs.List.{list_all}
 use Rattle.fork_tree.specs.declared.row.End.TheVariants as tree
 use Rattle.sip_lex.proofs.laws.Cuts.{Lacks-append, Lacks-pass}
 use Rattle.fork_text.proofs.laws.Preferred.{preferred_read, preferred_found, list_lacks}
-use Rattle.fork_listing.specs.declared.line.Word.{Word}
-use Rattle.fork_listing.specs.declared.line.Word.TheVariants as word
+use Rattle.fork_listing.specs.declared.line.ListingWord.{ListingWord}
+use Rattle.fork_listing.specs.declared.line.ListingWord.TheVariants as word
 use Rattle.fork_text.specs.Preferred.{read_preferred}
 use Rattle.fork_listing.specs.Reading.{word_of, target_with, read_target, ranked_with, read_ranked, final_with, read_final, read_fork, read_rest}
 use Rattle.fork_listing.specs.inner.Spelled.{IsSpelledBy}
@@ -19,7 +19,7 @@ use Rattle.fork_listing.proofs.SpelledParts.{status_read, status_found, count_re
 fork_read : (version : Version) (count : ℕ) → IsLine (ForkLine version count) → read_fork (version_text version ++ 32 ∷ decimal count) ≡ Some (ForkLine version count)
 fork_read version count h = grind (arith, count_read)
 
-target_read : (target : Target) → IsTargetLine target
+target_read : (target : ListedTarget) → IsTargetLine target
     → read_target (decimal target.number ++ 32 ∷ (number_text target.parent ++ 32 ∷ (decimal target.q ++ 32 ∷ end_text target.end))) ≡ Some target
 target_read target h =
     let third : List ℕ = decimal target.q ++ 32 ∷ end_text target.end in
@@ -56,7 +56,7 @@ line_read (FinalLine last) h = ap (option_map FinalLine) (final_read last h)
 
 -- ---- what is read is spelled so
 
-abbrev word_text : Word → List ℕ
+abbrev word_text : ListingWord → List ℕ
 word_text word.Fork = codes "fork"
 word_text word.Prefer = codes "prefer"
 word_text word.Depth = codes "depth"
@@ -64,7 +64,7 @@ word_text word.Target = codes "target"
 word_text word.Rank = codes "rank"
 word_text word.Final = codes "final"
 
-word_found : (text : List ℕ) (w : Word) → word_of text ≡ Some w → text ≡ word_text w
+word_found : (text : List ℕ) (w : ListingWord) → word_of text ≡ Some w → text ≡ word_text w
 word_found text w e = grind (arith, bytes_eq-Decides)
 
 fork_found : (rest : List ℕ) (line : Line) → read_fork rest ≡ Some line → IsSpelledBy (codes "fork" ++ 32 ∷ rest) line
@@ -80,9 +80,9 @@ fork_found rest line e =
     is)
     e
 
-target_found : (rest : List ℕ) (target : Target) → read_target rest ≡ Some target → IsSpelledBy (codes "target" ++ 32 ∷ rest) (TargetLine target)
+target_found : (rest : List ℕ) (target : ListedTarget) → read_target rest ≡ Some target → IsSpelledBy (codes "target" ++ 32 ∷ rest) (TargetLine target)
 target_found rest target e =
-    let P : Target → Type 0 = λ t. IsSpelledBy (codes "target" ++ 32 ∷ rest) (TargetLine t) in
+    let P : ListedTarget → Type 0 = λ t. IsSpelledBy (codes "target" ++ 32 ∷ rest) (TargetLine t) in
     found_then (λ n.
     option_and_then (λ p.
     option_and_then (λ q.
@@ -153,7 +153,7 @@ final_found rest last e =
     e
 
 -- behind a word and its space
-rest_found : (w : Word) (rest : List ℕ) (line : Line) → read_rest w rest ≡ Some line → IsSpelledBy (word_text w ++ 32 ∷ rest) line
+rest_found : (w : ListingWord) (rest : List ℕ) (line : Line) → read_rest w rest ≡ Some line → IsSpelledBy (word_text w ++ 32 ∷ rest) line
 rest_found word.Fork rest line e = fork_found rest line e
 rest_found word.Prefer rest line e =
     found_map PreferLine (read_preferred rest) line (IsSpelledBy (codes "prefer" ++ 32 ∷ rest))
@@ -210,7 +210,7 @@ fork_lacks version count h =
     let bound : most_listed version ≤ 256 = most_listed_small version in
     worded (codes "fork ") _ refl (spaced (version_text version) (decimal count) (version_lacks version) (decimal_lacks 10 count refl (omega arith)))
 
-target_lacks : (target : Target) → IsTargetLine target → Lacks 10 (line_text (TargetLine target))
+target_lacks : (target : ListedTarget) → IsTargetLine target → Lacks 10 (line_text (TargetLine target))
 target_lacks target h =
     worded (codes "target ") _ refl
     (spaced (decimal target.number) _ (decimal_lacks 10 target.number refl (omega arith))

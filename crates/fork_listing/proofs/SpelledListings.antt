@@ -1,9 +1,9 @@
 -- A listing is read of exactly the text that spells it.
 use Rattle.fork_listing.proofs.Common.{◌≡◌, ℕ, zero, suc, ◌-◌, List, [], ◌∷◌, ◌++◌, map, length, Option, Some, None, Ok, Err, refl, sym, ap, ◌∙◌, arith, append_assoc, append-nil, slice_split, join_with_byte-slice_split, is, Rules, Version, First}
-use Rattle.fork_listing.proofs.Common.{Second, Third, Target, Ranked, Final, Phase, Line, ForkLine, PreferLine, DepthLine, TargetLine, RankLine, FinalLine, line_text, read_line, Listing, rule_lines, listing_text, Draft, no_draft, in_phase}
+use Rattle.fork_listing.proofs.Common.{Second, Third, ListedTarget, Ranked, Final, ListingPhase, Line, ForkLine, PreferLine, DepthLine, TargetLine, RankLine, FinalLine, line_text, read_line, Listing, rule_lines, listing_text, Draft, no_draft, in_phase}
 use Rattle.fork_listing.proofs.Common.{drafted_line, listing_in, or_line, read_from, IsLine, IsListing, drafted, finished_draft, rules, common_steps}
 use Rattle.std.proofs.lemmas.Bool.{cond-false, ne_eqb}
-use Rattle.fork_listing.specs.declared.draft.Phase.TheVariants.{AtFork, AtPrefer, AtDepth, AtTargets, AtRanks, AtEnd}
+use Rattle.fork_listing.specs.declared.draft.ListingPhase.TheVariants.{AtFork, AtPrefer, AtDepth, AtTargets, AtRanks, AtEnd}
 use Rattle.fork_listing.specs.Text.{lines_of, targets_due, read_listing}
 use Rattle.fork_text.specs.RuleLines.{usual_rules}
 use Rattle.fork_text.proofs.laws.Lines.{IsReader, read_lines}
@@ -33,9 +33,9 @@ reader = record {
 due_more : (count : ℕ) → targets_due (suc count) ≡ AtTargets (suc count)
 due_more count = cond-false _ _ _ (ne_eqb (suc count) 0 (λ e. absurd (let h : suc count ≡ 0 = e in omega arith)))
 
-targets_drafted : (draft : Draft) (targets : List Target)
+targets_drafted : (draft : Draft) (targets : List ListedTarget)
     → drafted_lines (in_phase draft (targets_due (length targets))) (map TargetLine targets) ≡ Some (in_phase (record draft { targets = draft.targets ++ targets }) AtRanks)
-targets_drafted draft [] = ap (λ (ts : List Target). Some (in_phase (record draft { targets = ts }) AtRanks)) (sym (append-nil draft.targets))
+targets_drafted draft [] = ap (λ (ts : List ListedTarget). Some (in_phase (record draft { targets = ts }) AtRanks)) (sym (append-nil draft.targets))
 targets_drafted draft (target ∷ targets) =
     let less : suc (length targets) - 1 ≡ length targets = omega arith in
     let d : Draft = record draft { targets = draft.targets ++ target ∷ [] } in
@@ -48,10 +48,10 @@ ranks_drafted draft (ranked ∷ ranks) =
     ranks_drafted (record draft { ranks = draft.ranks ++ ranked ∷ [] }) ranks
     ∙ ap (λ (rs : List Ranked). Some (in_phase (record draft { ranks = rs }) AtRanks)) (append_assoc draft.ranks (ranked ∷ []) ranks)
 
-abbrev body_of : List Target → List Ranked → Final → List Line
+abbrev body_of : List ListedTarget → List Ranked → Final → List Line
 body_of targets ranks last = map TargetLine targets ++ (map RankLine ranks ++ FinalLine last ∷ [])
 
-body_drafted : (draft : Draft) (targets : List Target) (ranks : List Ranked) (last : Final)
+body_drafted : (draft : Draft) (targets : List ListedTarget) (ranks : List Ranked) (last : Final)
     → drafted_lines (in_phase draft (targets_due (length targets))) (body_of targets ranks last)
     ≡ Some (in_phase (record draft { targets = draft.targets ++ targets; ranks = draft.ranks ++ ranks }) (AtEnd last))
 body_drafted draft targets ranks last =
@@ -62,7 +62,7 @@ body_drafted draft targets ranks last =
 abbrev whole : Listing → Draft
 whole l = record { phase = AtEnd l.last; version = l.version; count = l.count; rules = l.rules; targets = l.targets; ranks = l.ranks }
 
-headed : (version : Version) (rules : Rules) → IsUsualElse version rules → (targets : List Target) (ranks : List Ranked) (last : Final)
+headed : (version : Version) (rules : Rules) → IsUsualElse version rules → (targets : List ListedTarget) (ranks : List Ranked) (last : Final)
     → drafted_lines no_draft (ForkLine version (length targets) ∷ (rule_lines version rules ++ body_of targets ranks last))
     ≡ Some (record { phase = AtEnd last; version = version; count = length targets; rules = rules; targets = targets; ranks = ranks })
 headed First rules usual targets ranks last =
@@ -91,7 +91,7 @@ listed_end number l o e = grind arith
 
 -- ---- lines that are due from the first to the last are those of a listing
 
-abbrev listing_by : Draft → List Target → List Ranked → Final → Listing
+abbrev listing_by : Draft → List ListedTarget → List Ranked → Final → Listing
 listing_by draft targets ranks last = record { version = draft.version; count = draft.count; rules = draft.rules; targets = targets; ranks = ranks; last = last }
 
 record RanksFound (draft : Draft) (lines : List Line) (l : Listing) : Type 0 where
@@ -123,7 +123,7 @@ at_ranks draft (FinalLine last ∷ lines) next l due end =
 at_ranks draft (line ∷ lines) next l due end = absurd cc
 
 record TargetsFound (draft : Draft) (count : ℕ) (lines : List Line) (l : Listing) : Type 0 where
-  targets : List Target
+  targets : List ListedTarget
   ranks : List Ranked
   last : Final
   counted : length targets ≡ count
@@ -152,10 +152,10 @@ at_targets draft zero lines next l due end =
       last = more.last;
       counted = refl;
       spelled = more.spelled;
-      same = ap (λ (ts : List Target). listing_by draft ts (draft.ranks ++ more.ranks) more.last) (append-nil draft.targets) ∙ more.same;
+      same = ap (λ (ts : List ListedTarget). listing_by draft ts (draft.ranks ++ more.ranks) more.last) (append-nil draft.targets) ∙ more.same;
     }
 at_targets draft (suc count) lines next l due end =
-    at_more draft count lines next l (ap (λ (p : Phase). drafted_lines (in_phase draft p) lines) (sym (due_more count)) ∙ due) end
+    at_more draft count lines next l (ap (λ (p : ListingPhase). drafted_lines (in_phase draft p) lines) (sym (due_more count)) ∙ due) end
     (λ d others rest. at_targets d count others next l rest end)
 
 -- the lines are those of the listing

@@ -9,7 +9,7 @@ use Rattle.fork_listing.specs.declared.line.Version.{Version}
 use Rattle.fork_listing.specs.declared.line.Version.TheVariants.{First, Second, Third}
 use Rattle.fork_tree.specs.declared.row.End.{End}
 use Rattle.fork_tree.specs.declared.row.End.TheVariants.{Stored, Taken, Silent, Never, Accepted}
-use Rattle.fork_listing.specs.declared.line.Target.{Target}
+use Rattle.fork_listing.specs.declared.line.ListedTarget.{ListedTarget}
 use Rattle.fork_listing.specs.declared.line.Ranked.{Ranked}
 use Rattle.fork_listing.specs.declared.line.Final.{Final}
 
@@ -17,7 +17,7 @@ pub data Line : Type 0 where
   ForkLine : Version → (count : ℕ) → Line
   PreferLine : (statuses : List ℕ) → Line
   DepthLine : (depth : ℕ) → Line
-  TargetLine : Target → Line
+  TargetLine : ListedTarget → Line
   RankLine : Ranked → Line
   FinalLine : Final → Line
 

@@ -9,7 +9,7 @@ use Rattle.fork_context.specs.RowShown.{row_shown}
 use Rattle.fork_listing.specs.declared.line.Version.TheVariants.{Third}
 use Rattle.fork_tree.specs.declared.row.End.{End}
 use Rattle.fork_tree.specs.declared.row.End.TheVariants.{Never}
-use Rattle.fork_listing.specs.declared.line.Target.{Target}
+use Rattle.fork_listing.specs.declared.line.ListedTarget.{ListedTarget}
 use Rattle.fork_listing.specs.declared.line.Ranked.{Ranked}
 use Rattle.fork_listing.specs.Ranks.{final_of}
 use Rattle.fork_listing.specs.Ranking.{IsRanking}
@@ -22,15 +22,15 @@ state_shown state.Trying = Never
 state_shown (state.Rung cancelled) = Never
 state_shown (state.Ended end) = end
 
-abbrev pub target_shown : RowView → Target
+abbrev pub target_shown : RowView → ListedTarget
 target_shown view = record { number = view.row.no; parent = view.row.parent; q = view.row.q; end = state_shown view.row.state }
 
 -- the line of each row, from this number on
-abbrev pub targets_from : ℕ → List table.Row → List Target
+abbrev pub targets_from : ℕ → List table.Row → List ListedTarget
 targets_from n [] = []
 targets_from n (row ∷ rows) = target_shown (row_shown n row) ∷ targets_from (suc n) rows
 
-abbrev pub targets_of : List table.Row → List Target
+abbrev pub targets_of : List table.Row → List ListedTarget
 targets_of rows = targets_from 0 rows
 
 abbrev pub listing_of : table.Table → List Ranked → Choice → Listing

@@ -7,15 +7,15 @@ use Rattle.fork_model.specs.Choice.{Choice, Best, Only503, NoAnswer408, IsChoice
 use Rattle.fork_tree.specs.States.{end_of}
 use Rattle.fork_tree.specs.declared.row.End.{End}
 use Rattle.fork_tree.specs.declared.row.End.TheVariants.{Stored, Taken, Silent, Never, Accepted}
-use Rattle.fork_listing.specs.declared.line.Target.{Target}
+use Rattle.fork_listing.specs.declared.line.ListedTarget.{ListedTarget}
 use Rattle.fork_listing.specs.declared.line.Ranked.{Ranked}
 use Rattle.fork_listing.specs.declared.line.Final.{Final}
 
 -- the row that a line tells of; of its key, place and group, of contacts and challenges it tells nothing
-abbrev pub row_of : Target → Row
+abbrev pub row_of : ListedTarget → Row
 row_of target = record { key = []; q = target.q; place = 0; parent = target.parent; group = 0; state = table.Ended (end_of target.end [] []) }
 
-abbrev pub rows_of : List Target → List Row
+abbrev pub rows_of : List ListedTarget → List Row
 rows_of targets = map row_of targets
 
 abbrev pub score_of : Ranked → Score
@@ -37,19 +37,19 @@ score_in (Silent arrival) = None
 score_in Never = None
 score_in (Accepted arrival) = None
 
-abbrev pub score_at : List Target → ℕ → Option Score
-score_at targets n = option_and_then (λ (target : Target). score_in target.end) (slice_get targets n)
+abbrev pub score_at : List ListedTarget → ℕ → Option Score
+score_at targets n = option_and_then (λ (target : ListedTarget). score_in target.end) (slice_get targets n)
 
 -- a line that tells of an answer that its branch has stored, and that ranks behind the line before
-pub record IsInOrder (rules : Rules) (targets : List Target) (ranks : List Ranked) (k : ℕ) (ranked : Ranked) : Type 0 where
+pub record IsInOrder (rules : Rules) (targets : List ListedTarget) (ranks : List Ranked) (k : ℕ) (ranked : Ranked) : Type 0 where
   pub stored : score_at targets ranked.number ≡ Some (score_of ranked)
   pub behind : RanksBehind rules (rank_before ranks k) ranked
 
-abbrev pub IsOrdered : Rules → List Target → List Ranked → ℕ → Type 0
+abbrev pub IsOrdered : Rules → List ListedTarget → List Ranked → ℕ → Type 0
 IsOrdered rules targets ranks k = (ranked : Ranked) → slice_get ranks k ≡ Some ranked → IsInOrder rules targets ranks k ranked
 
 -- a stored answer has its line
-abbrev pub IsListed : List Target → List Ranked → ℕ → Type 0
+abbrev pub IsListed : List ListedTarget → List Ranked → ℕ → Type 0
 IsListed targets ranks n =
     (score : Score) → score_at targets n ≡ Some score
     → (k : ℕ) × (ranked : Ranked) × (slice_get ranks k ≡ Some ranked) × (ranked.number ≡ n)
@@ -60,9 +60,9 @@ final_of rows (Best n) = record { status = status_sent rows (Best n); number = S
 final_of rows (Only503 n) = record { status = 500; number = Some n }
 final_of rows NoAnswer408 = record { status = 408; number = None }
 
-abbrev pub IsChosen : Rules → List Target → Final → Type 0
+abbrev pub IsChosen : Rules → List ListedTarget → Final → Type 0
 IsChosen rules targets last = (choice : Choice) × IsChoice rules (rows_of targets) choice × (last ≡ final_of (rows_of targets) choice)
 
 -- the choice is another
-abbrev pub IsNotChosen : Rules → List Target → Final → Type 0
+abbrev pub IsNotChosen : Rules → List ListedTarget → Final → Type 0
 IsNotChosen rules targets last = (choice : Choice) × IsChoice rules (rows_of targets) choice × (last ≡ final_of (rows_of targets) choice → ⊥)

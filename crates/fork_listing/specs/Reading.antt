@@ -6,18 +6,18 @@ use Rattle.sip_lex.specs.Number.{plain_number_within}
 use Rattle.fork_model.specs.Table.{most_targets}
 use Rattle.fork_text.specs.Field.{most_q, most_number, before, number_from}
 use Rattle.fork_text.specs.Preferred.{read_preferred}
-use Rattle.fork_listing.specs.declared.line.Word.{Word}
-use Rattle.fork_listing.specs.declared.line.Word.TheVariants as word
+use Rattle.fork_listing.specs.declared.line.ListingWord.{ListingWord}
+use Rattle.fork_listing.specs.declared.line.ListingWord.TheVariants as word
 use Rattle.fork_listing.specs.declared.line.Version.{Version}
 use Rattle.fork_listing.specs.declared.line.Version.TheVariants.{First, Second, Third}
 use Rattle.fork_tree.specs.declared.row.End.{End}
 use Rattle.fork_tree.specs.declared.row.End.TheVariants.{Stored, Taken, Silent, Never}
-use Rattle.fork_listing.specs.declared.line.Target.{Target}
+use Rattle.fork_listing.specs.declared.line.ListedTarget.{ListedTarget}
 use Rattle.fork_listing.specs.declared.line.Ranked.{Ranked}
 use Rattle.fork_listing.specs.declared.line.Final.{Final}
 use Rattle.fork_listing.specs.Line.{Line, ForkLine, PreferLine, DepthLine, TargetLine, RankLine, FinalLine, most_arrival, most_listed}
 
-abbrev pub word_of : List ℕ → Option Word
+abbrev pub word_of : List ℕ → Option ListingWord
 word_of text =
     if bytes_eq text (codes "fork") then Some word.Fork
     else (if bytes_eq text (codes "prefer") then Some word.Prefer
@@ -68,10 +68,10 @@ read_end_cut (word, Some rest) =
 abbrev pub read_end : List ℕ → Option End
 read_end text = read_end_cut (cut (is 32) text)
 
-abbrev pub target_with : ℕ → Option ℕ → ℕ → End → Target
+abbrev pub target_with : ℕ → Option ℕ → ℕ → End → ListedTarget
 target_with number parent q end = record { number = number; parent = parent; q = q; end = end }
 
-abbrev pub read_target : List ℕ → Option Target
+abbrev pub read_target : List ℕ → Option ListedTarget
 read_target text =
     option_and_then (λ n.
     option_and_then (λ p.
@@ -102,7 +102,7 @@ abbrev pub read_fork : List ℕ → Option Line
 read_fork text = option_and_then (λ v. option_map (ForkLine v.0) (read_count v.0 v.1)) (before read_version text)
 
 -- what stands behind the word and its space
-abbrev pub read_rest : Word → List ℕ → Option Line
+abbrev pub read_rest : ListingWord → List ℕ → Option Line
 read_rest word.Fork rest = read_fork rest
 read_rest word.Prefer rest = option_map PreferLine (read_preferred rest)
 read_rest word.Depth rest = option_map DepthLine (plain_number_within most_targets rest)

@@ -7,7 +7,7 @@ use Rattle.fork_listing.specs.declared.line.Version.{Version}
 use Rattle.fork_listing.specs.declared.line.Version.TheVariants.{First, Second, Third}
 use Rattle.fork_tree.specs.declared.row.End.{End}
 use Rattle.fork_tree.specs.declared.row.End.TheVariants.{Stored, Taken, Silent, Never, Accepted}
-use Rattle.fork_listing.specs.declared.line.Target.{Target}
+use Rattle.fork_listing.specs.declared.line.ListedTarget.{ListedTarget}
 use Rattle.fork_listing.specs.declared.line.Ranked.{Ranked}
 use Rattle.fork_listing.specs.declared.line.Final.{Final}
 use Rattle.fork_listing.specs.Line.{Line, ForkLine, PreferLine, DepthLine, TargetLine, RankLine, FinalLine, line_text, most_arrival, most_listed}
@@ -36,7 +36,7 @@ abbrev pub IsNumberOrNone : Option ℕ → Type 0
 IsNumberOrNone None = Unit {0}
 IsNumberOrNone (Some n) = n ≤ most_number
 
-abbrev pub IsTargetLine : Target → Type 0
+abbrev pub IsTargetLine : ListedTarget → Type 0
 IsTargetLine target =
     (target.number ≤ most_number) × IsNumberOrNone target.parent × (target.q ≤ most_q) × IsEnd target.end
 

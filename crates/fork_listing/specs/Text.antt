@@ -10,11 +10,11 @@ use Rattle.fork_text.specs.Pieces.{is_empty}
 use Rattle.fork_text.specs.RuleLines.{usual_rules}
 use Rattle.fork_listing.specs.declared.line.Version.{Version}
 use Rattle.fork_listing.specs.declared.line.Version.TheVariants.{First, Second, Third}
-use Rattle.fork_listing.specs.declared.line.Target.{Target}
+use Rattle.fork_listing.specs.declared.line.ListedTarget.{ListedTarget}
 use Rattle.fork_listing.specs.declared.line.Ranked.{Ranked}
 use Rattle.fork_listing.specs.declared.line.Final.{Final}
-use Rattle.fork_listing.specs.declared.draft.Phase.{Phase}
-use Rattle.fork_listing.specs.declared.draft.Phase.TheVariants.{AtFork, AtPrefer, AtDepth, AtTargets, AtRanks, AtEnd}
+use Rattle.fork_listing.specs.declared.draft.ListingPhase.{ListingPhase}
+use Rattle.fork_listing.specs.declared.draft.ListingPhase.TheVariants.{AtFork, AtPrefer, AtDepth, AtTargets, AtRanks, AtEnd}
 use Rattle.fork_listing.specs.Line.{Line, ForkLine, PreferLine, DepthLine, TargetLine, RankLine, FinalLine, line_text}
 use Rattle.fork_listing.specs.Reading.{read_line}
 
@@ -22,7 +22,7 @@ pub record Listing : Type 0 where
   pub version : Version
   pub count : ℕ
   pub rules : Rules
-  pub targets : List Target
+  pub targets : List ListedTarget
   pub ranks : List Ranked
   pub last : Final
 
@@ -45,11 +45,11 @@ lines_text lines = texts.lines_text line_text lines
 abbrev pub listing_text : Listing → List ℕ
 listing_text l = lines_text (lines_of l)
 
-abbrev pub targets_due : ℕ → Phase
+abbrev pub targets_due : ℕ → ListingPhase
 targets_due count = if count == 0 then AtRanks else AtTargets count
 
 -- which line is due in which phase, and the phase behind it
-abbrev pub phase_after : Phase → Line → Option Phase
+abbrev pub phase_after : ListingPhase → Line → Option ListingPhase
 phase_after AtFork (ForkLine First count) = Some (targets_due count)
 phase_after AtFork (ForkLine version count) = Some (AtPrefer version count)
 phase_after (AtPrefer Second count) (PreferLine statuses) = Some (targets_due count)
@@ -62,11 +62,11 @@ phase_after _ _ = None
 
 -- the lines read so far
 pub record Draft : Type 0 where
-  pub phase : Phase
+  pub phase : ListingPhase
   pub version : Version
   pub count : ℕ
   pub rules : Rules
-  pub targets : List Target
+  pub targets : List ListedTarget
   pub ranks : List Ranked
 
 abbrev pub no_draft : Draft
@@ -81,7 +81,7 @@ with_line draft (TargetLine target) = record draft { targets = draft.targets ++ 
 with_line draft (RankLine ranked) = record draft { ranks = draft.ranks ++ ranked ∷ [] }
 with_line draft (FinalLine last) = draft
 
-abbrev pub in_phase : Draft → Phase → Draft
+abbrev pub in_phase : Draft → ListingPhase → Draft
 in_phase draft phase = record draft { phase = phase }
 
 abbrev pub drafted_line : Draft → Line → Option Draft
@@ -91,7 +91,7 @@ drafted_line draft line = option_map (in_phase (with_line draft line)) (phase_af
 abbrev pub drafted : Draft → List ℕ → Option Draft
 drafted draft text = option_and_then (drafted_line draft) (read_line text)
 
-abbrev pub listing_in : Draft → Phase → Option Listing
+abbrev pub listing_in : Draft → ListingPhase → Option Listing
 listing_in draft (AtEnd last) = Some (record { version = draft.version; count = draft.count; rules = draft.rules; targets = draft.targets; ranks = draft.ranks; last = last })
 listing_in draft _ = None
 

@@ -7,7 +7,7 @@ ghost use Rattle.fork_listing.specs.Targets.{IsPlaced};
 ghost use Rattle.fork_listing.specs.Ranks.{rows_of};
 ghost use Rattle.fork_listing.specs.inner.TreeRows.{group_beside, group_behind, row_behind, tree_rows};
 
-use crate::line::Target;
+use crate::line::ListedTarget;
 use fork_rank::Rules;
 use fork_tree::{BestRef, ForkTree, RowRef, State};
 use std::alloc::{AllocError, Allocator};
@@ -24,7 +24,7 @@ fn group_beside(before: &RowRef, q: u16) -> u16
 }
 
 /// The group of the branch whose line stands behind that of a row.
-fn group_behind(before: Option<RowRef>, target: &Target) -> u16
+fn group_behind(before: Option<RowRef>, target: &ListedTarget) -> u16
     ensures { result ≡ group_behind before target.now }
 {
     match before {
@@ -39,7 +39,7 @@ fn group_behind(before: Option<RowRef>, target: &Target) -> u16
     }
 }
 
-fn row_behind(before: Option<RowRef>, target: &Target) -> RowRef
+fn row_behind(before: Option<RowRef>, target: &ListedTarget) -> RowRef
     ensures { result ≡ row_behind before target.now }
 {
     RowRef {
@@ -59,7 +59,7 @@ fn row_at(row: &RowRef) -> RowRef
 }
 
 /// The branches as rows of a tree.
-fn tree_rows<A: Allocator>(alloc: A, targets: &[Target]) -> Result<Vec<RowRef, A>, AllocError>
+fn tree_rows<A: Allocator>(alloc: A, targets: &[ListedTarget]) -> Result<Vec<RowRef, A>, AllocError>
     ensures { IfOk result (λ rows. rows.items ≡ tree_rows targets.now) }
 {
     let mut rows = Vec::with_capacity(alloc, targets.len())?;
@@ -81,7 +81,7 @@ fn tree_rows<A: Allocator>(alloc: A, targets: &[Target]) -> Result<Vec<RowRef, A
 pub fn best_stored<A: Allocator + Clone>(
     alloc: A,
     rules: Rules,
-    targets: &[Target],
+    targets: &[ListedTarget],
 ) -> Result<Option<BestRef>, AllocError>
     requires few { length targets.now ≤ most_targets }
     requires placed { HoldsBelow (IsPlaced rules.depth targets.now) (length targets.now) }

@@ -4,7 +4,7 @@ ghost use Rattle.fork_listing.specs.inner.LineView.{line_of};
 ghost use Rattle.fork_listing.specs.Text.{targets_due, phase_after, with_line, no_draft, drafted, finished_draft, read_listing};
 ghost use Rattle.fork_listing.specs.inner.ReadView.{GivesListing};
 
-use crate::line::{Final, Line, Ranked, Target, Version, read_line};
+use crate::line::{Final, ListedTarget, ListingLine, Ranked, Version, read_listing_line};
 use fork_rank::Rules;
 use fork_text::{with_depth, with_preferred};
 use sip_lex::cut_at;
@@ -13,7 +13,7 @@ use std::marker::Model;
 
 /// Which line is due.
 #[derive(Clone, Copy, Debug, PartialEq, Eq)]
-pub enum Phase {
+pub enum ListingPhase {
     /// The first line.
     AtFork,
     /// The line of the preferred statuses, of a listing of this version with so many targets.
@@ -29,32 +29,32 @@ pub enum Phase {
 }
 
 /// The phase in which so many targets are due.
-fn targets_due(count: u16) -> Phase
+fn targets_due(count: u16) -> ListingPhase
     ensures { result ≡ targets_due count }
 {
     if count == 0 {
-        Phase::AtRanks
+        ListingPhase::AtRanks
     } else {
-        Phase::AtTargets(count)
+        ListingPhase::AtTargets(count)
     }
 }
 
-impl Phase {
+impl ListingPhase {
     /// The phase behind a line; `None` where the line is not due.
-    fn after(self, line: &Line) -> Option<Phase>
+    fn after(self, line: &ListingLine) -> Option<ListingPhase>
         ensures { result ≡ phase_after self (line_of line.now) }
     {
         match (self, line) {
-            (Phase::AtFork, Line::Fork(Version::First, count)) => Some(targets_due(*count)),
-            (Phase::AtFork, Line::Fork(version, count)) => Some(Phase::AtPrefer(*version, *count)),
-            (Phase::AtPrefer(Version::Second, count), Line::Prefer(_)) => Some(targets_due(count)),
-            (Phase::AtPrefer(_, count), Line::Prefer(_)) => Some(Phase::AtDepth(count)),
-            (Phase::AtDepth(count), Line::Depth(_)) => Some(targets_due(count)),
-            (Phase::AtTargets(count), Line::Target(_)) => Some(targets_due(count.saturating_sub(
+            (ListingPhase::AtFork, ListingLine::Fork(Version::First, count)) => Some(targets_due(*count)),
+            (ListingPhase::AtFork, ListingLine::Fork(version, count)) => Some(ListingPhase::AtPrefer(*version, *count)),
+            (ListingPhase::AtPrefer(Version::Second, count), ListingLine::Prefer(_)) => Some(targets_due(count)),
+            (ListingPhase::AtPrefer(_, count), ListingLine::Prefer(_)) => Some(ListingPhase::AtDepth(count)),
+            (ListingPhase::AtDepth(count), ListingLine::Depth(_)) => Some(targets_due(count)),
+            (ListingPhase::AtTargets(count), ListingLine::Target(_)) => Some(targets_due(count.saturating_sub(
                 1,
             ))),
-            (Phase::AtRanks, Line::Rank(_)) => Some(Phase::AtRanks),
-            (Phase::AtRanks, Line::Final(last)) => Some(Phase::AtEnd(*last)),
+            (ListingPhase::AtRanks, ListingLine::Rank(_)) => Some(ListingPhase::AtRanks),
+            (ListingPhase::AtRanks, ListingLine::Final(last)) => Some(ListingPhase::AtEnd(*last)),
             _ => None,
         }
     }
@@ -62,20 +62,20 @@ impl Phase {
 
 /// Why a text is no listing.
 #[derive(Clone, Copy, Debug, PartialEq, Eq)]
-pub enum ReadFault {
+pub enum ListingFault {
     /// The first line that is not of the form due in its place, or is missing, from 1.
     Line(usize),
     /// A growth was refused.
     NoMemory,
 }
 
-impl From<AllocError> for ReadFault {
-    ghost use Rattle.fork_listing.specs.declared.draft.ReadFault.TheVariants as read;
+impl From<AllocError> for ListingFault {
+    ghost use Rattle.fork_listing.specs.declared.draft.ListingFault.TheVariants as read;
 
     ghost from_gives = { λ _ fault. fault ≡ read.NoMemory };
 
-    fn from(_refused: AllocError) -> ReadFault {
-        ReadFault::NoMemory
+    fn from(_refused: AllocError) -> ListingFault {
+        ListingFault::NoMemory
     }
 }
 
@@ -86,7 +86,7 @@ pub struct Listing<A: Allocator> {
     pub(crate) version: Version,
     pub(crate) count: u16,
     pub(crate) rules: Rules,
-    pub(crate) targets: Vec<Target, A>,
+    pub(crate) targets: Vec<ListedTarget, A>,
     pub(crate) ranks: Vec<Ranked, A>,
     pub(crate) last: Final,
 }
@@ -101,16 +101,16 @@ impl<A: Allocator> Model for Listing<A> {
 
 /// The lines read so far.
 #[derive(Drop)]
-struct Draft<A: Allocator> {
-    phase: Phase,
+struct ListingDraft<A: Allocator> {
+    phase: ListingPhase,
     version: Version,
     count: u16,
     rules: Rules,
-    targets: Vec<Target, A>,
+    targets: Vec<ListedTarget, A>,
     ranks: Vec<Ranked, A>,
 }
 
-impl<A: Allocator> Model for Draft<A> {
+impl<A: Allocator> Model for ListingDraft<A> {
     ghost use Rattle.fork_listing.specs.Text as spec;
 
     ghost Value = { spec.Draft };
@@ -118,12 +118,12 @@ impl<A: Allocator> Model for Draft<A> {
     ghost view = { λ d. record { phase = d.phase; version = d.version; count = d.count; rules = d.rules; targets = d.targets.items; ranks = d.ranks.items } };
 }
 
-impl<A: Allocator + Clone> Draft<A> {
+impl<A: Allocator + Clone> ListingDraft<A> {
     fn new(alloc: &A) -> Result<Self, AllocError>
         ensures { IfOk result (λ draft. draft ≡ no_draft) }
     {
-        Ok(Draft {
-            phase: Phase::AtFork,
+        Ok(ListingDraft {
+            phase: ListingPhase::AtFork,
             version: Version::First,
             count: 0,
             rules: Rules::usual(),
@@ -133,19 +133,19 @@ impl<A: Allocator + Clone> Draft<A> {
     }
 
     /// Adds what a line says.
-    fn add_line(&mut self, line: Line) -> Result<(), AllocError>
+    fn add_line(&mut self, line: ListingLine) -> Result<(), AllocError>
         ensures { OnOk result (self.new ≡ with_line self.old (line_of line)) }
     {
         match line {
-            Line::Fork(version, count) => {
+            ListingLine::Fork(version, count) => {
                 self.version = version;
                 self.count = count;
             }
-            Line::Prefer(preferred) => self.rules = with_preferred(self.rules, preferred),
-            Line::Depth(depth) => self.rules = with_depth(self.rules, depth),
-            Line::Target(target) => self.targets.push(target)?,
-            Line::Rank(ranked) => self.ranks.push(ranked)?,
-            Line::Final(_) => {}
+            ListingLine::Prefer(preferred) => self.rules = with_preferred(self.rules, preferred),
+            ListingLine::Depth(depth) => self.rules = with_depth(self.rules, depth),
+            ListingLine::Target(target) => self.targets.push(target)?,
+            ListingLine::Rank(ranked) => self.ranks.push(ranked)?,
+            ListingLine::Final(_) => {}
         }
         Ok(())
     }
@@ -154,7 +154,7 @@ impl<A: Allocator + Clone> Draft<A> {
     fn add(&mut self, text: &[u8]) -> Result<bool, AllocError>
         ensures { IfOk result (λ added. (if added then Some self.new else None) ≡ drafted self.old text.now) }
     {
-        let Some(line) = read_line(text) else {
+        let Some(line) = read_listing_line(text) else {
             return Ok(false);
         };
         let Some(phase) = self.phase.after(&line) else {
@@ -166,10 +166,10 @@ impl<A: Allocator + Clone> Draft<A> {
     }
 
     /// The whole listing, where nothing stands behind its last line.
-    fn finished(self, number: usize, rest: &[u8]) -> Result<Listing<A>, ReadFault>
+    fn finished(self, number: usize, rest: &[u8]) -> Result<Listing<A>, ListingFault>
         ensures { GivesListing (finished_draft number self rest.now) result }
     {
-        let Draft {
+        let ListingDraft {
             phase,
             version,
             count,
@@ -178,7 +178,7 @@ impl<A: Allocator + Clone> Draft<A> {
             ranks,
         } = self;
         match phase {
-            Phase::AtEnd(last) if rest.is_empty() => Ok(Listing {
+            ListingPhase::AtEnd(last) if rest.is_empty() => Ok(Listing {
                 version,
                 count,
                 rules,
@@ -186,7 +186,7 @@ impl<A: Allocator + Clone> Draft<A> {
                 ranks,
                 last,
             }),
-            _ => Err(ReadFault::Line(number)),
+            _ => Err(ListingFault::Line(number)),
         }
     }
 }
@@ -199,10 +199,10 @@ impl<A: Allocator + Clone> Listing<A> {
     /// The first line, counted from 1, that is not of the form due in its place; a missing one by the number that it
     /// would have. Or want of memory.
     #[tactic(auto, unfolding(crate::specs::Text::read_listing))]
-    pub fn read(alloc: &A, text: &[u8]) -> Result<Self, ReadFault>
+    pub fn read(alloc: &A, text: &[u8]) -> Result<Self, ListingFault>
         ensures { GivesListing (read_listing text.now) result }
     {
-        let mut draft = Draft::new(alloc)?;
+        let mut draft = ListingDraft::new(alloc)?;
         let mut number = 1;
         let mut rest = text;
         loop {
@@ -211,7 +211,7 @@ impl<A: Allocator + Clone> Listing<A> {
                 return draft.finished(number, line);
             };
             if !draft.add(line)? {
-                return Err(ReadFault::Line(number));
+                return Err(ListingFault::Line(number));
             }
             number += 1;
             rest = after;

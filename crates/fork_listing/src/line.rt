@@ -8,7 +8,7 @@ ghost use Rattle.fork_listing.specs.Reading.{word_of, read_version, read_status,
 ghost use Rattle.fork_listing.specs.inner.LineView.{line_of};
 
 use fork_rank::{MOST_TARGETS, Preferred, Status};
-use fork_text::{Depth, read_depth, read_number, read_number_before, read_preferred};
+use fork_text::{Depth, read_depth, read_preferred, read_small_number, read_small_number_before};
 use fork_tree::End;
 use sip_lex::{cut_at, read_plain_number};
 
@@ -29,7 +29,7 @@ pub enum Version {
 /// A branch: its number, the number of the branch it stands under (None: an initial target), its q in thousandths, and
 /// how it ended, other than with a 2xx.
 #[derive(Clone, Copy, Debug, PartialEq, Eq)]
-pub struct Target {
+pub struct ListedTarget {
     pub number: u16,
     pub parent: Option<u16>,
     pub q: u16,
@@ -53,18 +53,18 @@ pub struct Final {
 
 /// What a line says.
 #[derive(Clone, Copy, Debug)]
-pub enum Line {
+pub enum ListingLine {
     Fork(Version, u16),
     Prefer(Preferred),
     Depth(Depth),
-    Target(Target),
+    Target(ListedTarget),
     Rank(Ranked),
     Final(Final),
 }
 
 /// The word that begins a line.
 #[derive(Clone, Copy, Debug, PartialEq, Eq)]
-pub enum Word {
+pub enum ListingWord {
     Fork,
     Prefer,
     Depth,
@@ -73,21 +73,21 @@ pub enum Word {
     Final,
 }
 
-fn word_of(text: &[u8]) -> Option<Word>
+fn word_of(text: &[u8]) -> Option<ListingWord>
     ensures { result ≡ word_of text.now }
 {
     if text == b"fork".as_slice() {
-        Some(Word::Fork)
+        Some(ListingWord::Fork)
     } else if text == b"prefer".as_slice() {
-        Some(Word::Prefer)
+        Some(ListingWord::Prefer)
     } else if text == b"depth".as_slice() {
-        Some(Word::Depth)
+        Some(ListingWord::Depth)
     } else if text == b"target".as_slice() {
-        Some(Word::Target)
+        Some(ListingWord::Target)
     } else if text == b"rank".as_slice() {
-        Some(Word::Rank)
+        Some(ListingWord::Rank)
     } else if text == b"final".as_slice() {
-        Some(Word::Final)
+        Some(ListingWord::Final)
     } else {
         None
     }
@@ -113,7 +113,7 @@ fn read_arrival_before(text: &[u8]) -> Option<(u32, &[u8])>
 fn read_status(digits: &[u8]) -> Option<Status>
     ensures { result ≡ read_status digits.now }
 {
-    let n = read_number(digits, 699)?;
+    let n = read_small_number(digits, 699)?;
     if n >= 300 { Status::of(n) } else { None }
 }
 
@@ -133,7 +133,7 @@ fn read_parent(text: &[u8]) -> Option<Option<u16>>
     if text == b"-".as_slice() {
         Some(None)
     } else {
-        Some(Some(read_number(text, u16::MAX)?))
+        Some(Some(read_small_number(text, u16::MAX)?))
     }
 }
 
@@ -177,7 +177,7 @@ fn read_count(version: Version, digits: &[u8]) -> Option<u16>
         Version::First | Version::Second => MOST_EARLY_TARGETS,
         Version::Third => MOST_TARGETS,
     };
-    let count = read_number(digits, most)?;
+    let count = read_small_number(digits, most)?;
     if count >= 1 { Some(count) } else { None }
 }
 
@@ -250,14 +250,14 @@ fn read_end(text: &[u8]) -> Option<End>
     }
 }
 
-fn read_target(text: &[u8]) -> Option<Target>
+fn read_target(text: &[u8]) -> Option<ListedTarget>
     ensures { result ≡ read_target text.now }
 {
-    let (number, rest) = read_number_before(text, u16::MAX)?;
+    let (number, rest) = read_small_number_before(text, u16::MAX)?;
     let (parent, rest) = read_parent_before(rest)?;
-    let (q, rest) = read_number_before(rest, MOST_Q)?;
+    let (q, rest) = read_small_number_before(rest, MOST_Q)?;
     let end = read_end(rest)?;
-    Some(Target {
+    Some(ListedTarget {
         number,
         parent,
         q,
@@ -271,7 +271,7 @@ fn read_ranked(text: &[u8]) -> Option<Ranked>
     match read_status_before(text) {
         None => None,
         Some((status, rest)) => {
-            let (number, rest) = read_number_before(rest, u16::MAX)?;
+            let (number, rest) = read_small_number_before(rest, u16::MAX)?;
             let arrival = read_arrival(rest)?;
             Some(Ranked {
                 status,
@@ -295,24 +295,24 @@ fn read_final(text: &[u8]) -> Option<Final>
 }
 
 /// What stands behind a word and its space.
-fn read_rest(word: Word, rest: &[u8]) -> Option<Line>
+fn read_rest(word: ListingWord, rest: &[u8]) -> Option<ListingLine>
     ensures { option_map line_of result ≡ read_rest word rest.now }
 {
     match word {
-        Word::Fork => {
+        ListingWord::Fork => {
             let (version, count) = read_version_before(rest)?;
-            Some(Line::Fork(version, read_count(version, count)?))
+            Some(ListingLine::Fork(version, read_count(version, count)?))
         }
-        Word::Prefer => Some(Line::Prefer(read_preferred(rest)?)),
-        Word::Depth => Some(Line::Depth(read_depth(rest)?)),
-        Word::Target => Some(Line::Target(read_target(rest)?)),
-        Word::Rank => Some(Line::Rank(read_ranked(rest)?)),
-        Word::Final => Some(Line::Final(read_final(rest)?)),
+        ListingWord::Prefer => Some(ListingLine::Prefer(read_preferred(rest)?)),
+        ListingWord::Depth => Some(ListingLine::Depth(read_depth(rest)?)),
+        ListingWord::Target => Some(ListingLine::Target(read_target(rest)?)),
+        ListingWord::Rank => Some(ListingLine::Rank(read_ranked(rest)?)),
+        ListingWord::Final => Some(ListingLine::Final(read_final(rest)?)),
     }
 }
 
 /// What a line says; `None` where it has no form of a line of a listing.
-pub fn read_line(text: &[u8]) -> Option<Line>
+pub fn read_listing_line(text: &[u8]) -> Option<ListingLine>
     ensures { option_map line_of result ≡ read_line text.now }
 {
     match cut_at(text, b' ') {

@@ -5,7 +5,7 @@ ghost use Rattle.fork_listing.specs.Line.{number_text, how_text, end_text, line_
 ghost use Rattle.fork_listing.specs.inner.Text.{head_text, targets_text, ranks_text};
 ghost use Rattle.fork_text.specs.RuleLines.{ended};
 
-use crate::line::{Ranked, Target};
+use crate::line::{ListedTarget, Ranked};
 use fork_rank::Rules;
 use fork_text::{append, append_depth, append_preferred};
 use fork_tree::End;
@@ -70,7 +70,7 @@ fn append_end<A: Allocator>(text: &mut Vec<u8, A>, end: End) -> Result<(), Alloc
 }
 
 /// Appends the number of a branch and that of its parent.
-fn append_parentage<A: Allocator>(text: &mut Vec<u8, A>, target: &Target) -> Result<(), AllocError>
+fn append_parentage<A: Allocator>(text: &mut Vec<u8, A>, target: &ListedTarget) -> Result<(), AllocError>
     ensures { OnOk result (text.new.items ≡ text.old.items ++ (decimal target.now.number ++ 32 ∷ (number_text target.now.parent ++ 32 ∷ []))) }
 {
     append_number_before(text, u64::from(target.number))?;
@@ -78,7 +78,7 @@ fn append_parentage<A: Allocator>(text: &mut Vec<u8, A>, target: &Target) -> Res
     append(text, b" ")
 }
 
-fn append_target<A: Allocator>(text: &mut Vec<u8, A>, target: &Target) -> Result<(), AllocError>
+fn append_target<A: Allocator>(text: &mut Vec<u8, A>, target: &ListedTarget) -> Result<(), AllocError>
     ensures { OnOk result (text.new.items ≡ text.old.items ++ ended (line_text (TargetLine target.now))) }
 {
     append(text, b"target ")?;
@@ -115,7 +115,7 @@ pub fn append_head<A: Allocator>(
 
 pub fn append_targets<A: Allocator>(
     text: &mut Vec<u8, A>,
-    targets: &[Target],
+    targets: &[ListedTarget],
 ) -> Result<(), AllocError>
     ensures { OnOk result (text.new.items ≡ text.old.items ++ targets_text targets.now) }
 {

@@ -8,7 +8,7 @@ ghost use Rattle.fork_listing.specs.First.{IsFirstToFail};
 ghost use Rattle.fork_listing.specs.Ranks.{score_of, score_in, score_at, RanksBehind, rank_before, IsInOrder, IsOrdered, IsListed};
 ghost use Rattle.fork_listing.specs.inner.Stored.{ranked_in, final_of_best, number_in, IsCounted};
 
-use crate::line::{Final, Ranked, Target};
+use crate::line::{Final, ListedTarget, Ranked};
 use crate::targets::target_at;
 use fork_rank::{Rules, ranks_before};
 use fork_tree::{BestRef, End};
@@ -29,7 +29,7 @@ fn is_answer(end: End, ranked: &Ranked) -> bool
     }
 }
 
-fn is_stored(targets: &[Target], ranked: &Ranked) -> bool
+fn is_stored(targets: &[ListedTarget], ranked: &Ranked) -> bool
     ensures { IsTrue result ↔ (score_at targets.now ranked.now.number ≡ Some (score_of ranked.now)) }
 {
     match target_at(targets, ranked.number) {
@@ -69,7 +69,7 @@ fn ranks_behind(rules: &Rules, before: Option<Ranked>, ranked: &Ranked) -> bool
 
 fn is_in_order(
     rules: &Rules,
-    targets: &[Target],
+    targets: &[ListedTarget],
     ranks: &[Ranked],
     k: usize,
     ranked: &Ranked,
@@ -79,7 +79,7 @@ fn is_in_order(
     is_stored(targets, ranked) && ranks_behind(rules, rank_before(ranks, k), ranked)
 }
 
-fn is_misordered(rules: &Rules, targets: &[Target], ranks: &[Ranked], k: usize) -> bool
+fn is_misordered(rules: &Rules, targets: &[ListedTarget], ranks: &[Ranked], k: usize) -> bool
     ensures { MatchBool result (IsOrdered rules.now targets.now ranks.now k → ⊥) (IsOrdered rules.now targets.now ranks.now k) }
 {
     match ranks.get(k) {
@@ -89,7 +89,7 @@ fn is_misordered(rules: &Rules, targets: &[Target], ranks: &[Ranked], k: usize) 
 }
 
 /// The first line that tells of no stored answer, or of one that does not rank behind that of the line before.
-pub fn first_misordered(rules: &Rules, targets: &[Target], ranks: &[Ranked]) -> Option<usize>
+pub fn first_misordered(rules: &Rules, targets: &[ListedTarget], ranks: &[Ranked]) -> Option<usize>
     ensures { IsFirstToFail (IsOrdered rules.now targets.now ranks.now) (length ranks.now) result }
 {
     (0..ranks.len()).find(|k| is_misordered(rules, targets, ranks, *k))
@@ -109,7 +109,7 @@ fn numbers_of<A: Allocator + Clone>(
 }
 
 /// The stored answer of a branch.
-pub fn stored_in(target: &Target) -> Option<Ranked>
+pub fn stored_in(target: &ListedTarget) -> Option<Ranked>
     ensures { result ≡ ranked_in target.now }
 {
     match target.end {
@@ -127,7 +127,7 @@ pub fn stored_in(target: &Target) -> Option<Ranked>
 }
 
 /// Whether branch n has a stored answer, and its number is none of these.
-fn is_unlisted<A: Allocator>(targets: &[Target], numbers: &BTreeSet<usize, A>, n: usize) -> bool
+fn is_unlisted<A: Allocator>(targets: &[ListedTarget], numbers: &BTreeSet<usize, A>, n: usize) -> bool
     ensures { MatchBool result (IsCounted targets.now numbers.now n → ⊥) (IsCounted targets.now numbers.now n) }
 {
     match targets.get(n) {
@@ -143,7 +143,7 @@ fn is_unlisted<A: Allocator>(targets: &[Target], numbers: &BTreeSet<usize, A>, n
 /// Only where the allocator refuses.
 pub fn first_unlisted<A: Allocator + Clone>(
     alloc: A,
-    targets: &[Target],
+    targets: &[ListedTarget],
     ranks: &[Ranked],
 ) -> Result<Option<usize>, AllocError>
     ensures { IfOk result (IsFirstToFail (IsListed targets.now ranks.now) (length targets.now)) }

@@ -7,7 +7,7 @@ ghost use Rattle.fork_listing.specs.Text.{read_listing};
 ghost use Rattle.fork_listing.specs.Checking.{IsChecked, IsVerdictOf, first_target};
 
 use crate::choice::best_stored;
-use crate::draft::{Listing, ReadFault};
+use crate::draft::{Listing, ListingFault};
 use crate::line::Version;
 use crate::ranks::{first_misordered, first_unlisted, is_final_of};
 use crate::targets::first_misplaced;
@@ -102,8 +102,8 @@ fn check_in<A: Allocator + Clone>(alloc: A, text: &[u8]) -> Result<Verdict, Chec
 {
     match Listing::read(&alloc, text) {
         Ok(listing) => check_listing(alloc, &listing),
-        Err(ReadFault::Line(number)) => Err(CheckFault::Line(number)),
-        Err(ReadFault::NoMemory) => Err(CheckFault::NoMemory),
+        Err(ListingFault::Line(number)) => Err(CheckFault::Line(number)),
+        Err(ListingFault::NoMemory) => Err(CheckFault::NoMemory),
     }
 }
 

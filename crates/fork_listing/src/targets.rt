@@ -4,7 +4,7 @@ ghost use Rattle.fork_listing.specs.First.{IsFirstToFail};
 ghost use Rattle.fork_listing.specs.Targets.{arrival_of, ended_at, is_redirection, is_redirected, IsParent, IsBefore, Follows, FollowsTarget, line_before, IsEarlier, IsPlaced};
 ghost use Rattle.fork_listing.specs.inner.Near.{FallsTo, IsShallow, IsNear, Notes};
 
-use crate::line::Target;
+use crate::line::ListedTarget;
 use fork_rank::Rules;
 use fork_tree::End;
 use std::alloc::{AllocError, Allocator};
@@ -38,19 +38,19 @@ fn is_redirection(end: End) -> bool
     }
 }
 
-pub fn target_at(targets: &[Target], n: u16) -> Option<Target>
+pub fn target_at(targets: &[ListedTarget], n: u16) -> Option<ListedTarget>
     ensures { result ≡ slice_get targets.now n }
 {
     targets.get(usize::from(n)).copied()
 }
 
-fn ended_at(targets: &[Target], n: u16) -> Option<u32>
+fn ended_at(targets: &[ListedTarget], n: u16) -> Option<u32>
     ensures { result ≡ ended_at targets.now n }
 {
     arrival_of(target_at(targets, n)?.end)
 }
 
-fn is_redirected(targets: &[Target], n: u16) -> bool
+fn is_redirected(targets: &[ListedTarget], n: u16) -> bool
     ensures { result ≡ is_redirected (slice_get targets.now n) }
 {
     match target_at(targets, n) {
@@ -59,7 +59,7 @@ fn is_redirected(targets: &[Target], n: u16) -> bool
     }
 }
 
-fn is_parent(targets: &[Target], n: usize, parent: Option<u16>) -> bool
+fn is_parent(targets: &[ListedTarget], n: usize, parent: Option<u16>) -> bool
     ensures { IsTrue result ↔ IsParent targets.now n parent }
 {
     match parent {
@@ -87,7 +87,7 @@ fn is_earlier(a: Option<u32>, b: Option<u32>) -> bool
 }
 
 /// Whether a line under a parent may stand right behind one under another.
-fn follows(targets: &[Target], before: Option<u16>, parent: Option<u16>) -> bool
+fn follows(targets: &[ListedTarget], before: Option<u16>, parent: Option<u16>) -> bool
     ensures { IsTrue result ↔ Follows targets.now before parent }
 {
     match (before, parent) {
@@ -99,7 +99,7 @@ fn follows(targets: &[Target], before: Option<u16>, parent: Option<u16>) -> bool
     }
 }
 
-fn follows_target(targets: &[Target], before: Option<Target>, parent: Option<u16>) -> bool
+fn follows_target(targets: &[ListedTarget], before: Option<ListedTarget>, parent: Option<u16>) -> bool
     ensures { IsTrue result ↔ FollowsTarget targets.now before parent }
 {
     match before {
@@ -109,7 +109,7 @@ fn follows_target(targets: &[Target], before: Option<Target>, parent: Option<u16
 }
 
 /// Whether q does not rise from one line to the next under the same parent.
-fn falls_to(before: Option<Target>, target: &Target) -> bool
+fn falls_to(before: Option<ListedTarget>, target: &ListedTarget) -> bool
     ensures { IsTrue result ↔ FallsTo before target.now }
 {
     match before {
@@ -118,7 +118,7 @@ fn falls_to(before: Option<Target>, target: &Target) -> bool
     }
 }
 
-fn line_before(targets: &[Target], n: usize) -> Option<Target>
+fn line_before(targets: &[ListedTarget], n: usize) -> Option<ListedTarget>
     ensures { result ≡ line_before targets.now n }
 {
     if n == 0 {
@@ -129,14 +129,14 @@ fn line_before(targets: &[Target], n: usize) -> Option<Target>
 }
 
 /// When the parent was redirected.
-fn parent_ended_at(targets: &[Target], parent: Option<u16>) -> Option<u32>
+fn parent_ended_at(targets: &[ListedTarget], parent: Option<u16>) -> Option<u32>
     ensures { result ≡ option_and_then (ended_at targets.now) parent }
 {
     ended_at(targets, parent?)
 }
 
 /// Whether a line under this parent has so many lines above it at most.
-fn is_shallow(targets: &[Target], parent: Option<u16>, most: u16) -> bool
+fn is_shallow(targets: &[ListedTarget], parent: Option<u16>, most: u16) -> bool
     ensures { IsTrue result ↔ IsShallow targets.now parent most }
 {
     match parent {
@@ -149,7 +149,7 @@ fn is_shallow(targets: &[Target], parent: Option<u16>, most: u16) -> bool
 }
 
 /// Whether the line has its number, and keeps the rules that its parents and the line before it decide.
-fn is_near(rules: &Rules, targets: &[Target], n: usize, target: &Target) -> bool
+fn is_near(rules: &Rules, targets: &[ListedTarget], n: usize, target: &ListedTarget) -> bool
     ensures { IsTrue result ↔ IsNear rules.now.depth targets.now n target.now }
 {
     usize::from(target.number) == n
@@ -184,7 +184,7 @@ fn note<A: Allocator + Clone>(
 pub fn first_misplaced<A: Allocator + Clone>(
     alloc: A,
     rules: &Rules,
-    targets: &[Target],
+    targets: &[ListedTarget],
 ) -> Result<Option<usize>, AllocError>
     ensures { IfOk result (IsFirstToFail (IsPlaced rules.now.depth targets.now) (length targets.now)) }
 {

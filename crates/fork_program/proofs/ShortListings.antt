@@ -13,7 +13,7 @@ use Rattle.fork_model.specs.Rank.{Score, Before}
 use Rattle.fork_text.specs.Preferred.{list_text}
 use Rattle.fork_listing.specs.declared.line.Version.{Version}
 use Rattle.fork_tree.specs.declared.row.End.{End}
-use Rattle.fork_listing.specs.declared.line.Target.{Target}
+use Rattle.fork_listing.specs.declared.line.ListedTarget.{ListedTarget}
 use Rattle.fork_listing.specs.declared.line.Ranked.{Ranked}
 use Rattle.fork_listing.specs.Line.{Line, version_text, number_text, how_text, end_text, line_text}
 use Rattle.fork_listing.specs.Ranks.{score_of, score_at}
@@ -104,7 +104,7 @@ length_numbers : (ranks : List Ranked) → length (map number_of ranks) ≡ leng
 length_numbers [] = refl
 length_numbers (ranked ∷ ranks) = ap suc (length_numbers ranks)
 
-scored_within : (targets : List Target) (n : ℕ) (score : Score) → score_at targets n ≡ Some score → n < length targets
+scored_within : (targets : List ListedTarget) (n : ℕ) (score : Score) → score_at targets n ≡ Some score → n < length targets
 scored_within targets n score e = grind (arith, common_steps, option_and_then, slice_get_within)
 
 -- there are no more rank lines than target lines

@@ -8,7 +8,7 @@ use Rattle.std.proofs.lemmas.List.Splits.{join_with_byte-slice_split, length-sli
 use Rattle.sip_lex.proofs.laws.Splits.{pieces_lack}
 use Rattle.fork_text.specs.LineByLine.{with_next}
 use Rattle.fork_text.proofs.laws.Lines.{IsReader, read_lines, malformed, found, next_piece}
-use Rattle.fork_program.specs.declared.script.ReadFault.{ReadFault}
+use Rattle.fork_program.specs.declared.script.ScriptFault.{ScriptFault}
 use Rattle.fork_program.specs.Script.{read_script}
 use Rattle.fork_program.specs.Malformed.{IsMalformedAt}
 use Rattle.fork_program.specs.Grammar.{ReadExactly, RefusedByFirst}
@@ -141,11 +141,11 @@ refused_by_first text n = (malformed_found text n, malformed_told text n)
 
 -- ---- so what a call gives says which text it was
 
-pub gives_found : (text : List ℕ) (r : Result Script ReadFault) → GivesScript (read_script text) r → IfOk r (Spells text)
+pub gives_found : (text : List ℕ) (r : Result Script ScriptFault) → GivesScript (read_script text) r → IfOk r (Spells text)
 gives_found text r h = grind (arith, common_steps, script_found)
 
-pub gives_only : (text : List ℕ) (r : Result Script ReadFault) → GivesScript (read_script text) r → (s : Script) → Spells text s → GivesScript (Ok s) r
+pub gives_only : (text : List ℕ) (r : Result Script ScriptFault) → GivesScript (read_script text) r → (s : Script) → Spells text s → GivesScript (Ok s) r
 gives_only text r h s is = grind (arith, common_steps, script_read text s is)
 
-pub gives_fault : (text : List ℕ) (r : Result Script ReadFault) → GivesScript (read_script text) r → IfErr r (IsFaultOf text)
+pub gives_fault : (text : List ℕ) (r : Result Script ScriptFault) → GivesScript (read_script text) r → IfErr r (IsFaultOf text)
 gives_fault text r h = grind (arith, common_steps, malformed_found)

@@ -7,11 +7,11 @@ use Rattle.fork_model.specs.Table.{Kind, Invite, Other, most_targets}
 use Rattle.fork_model.specs.Event.{Ring, Answer, Timeout, Fault, TimerC, GiveUp, Cancel}
 use Rattle.fork_text.specs.Field.{most_q, most_number, number_before, number_from}
 use Rattle.fork_text.specs.Preferred.{read_preferred}
-use Rattle.fork_program.specs.declared.line.Word.{Word}
-use Rattle.fork_program.specs.declared.line.Word.TheVariants as word
+use Rattle.fork_program.specs.declared.line.ScriptWord.{ScriptWord}
+use Rattle.fork_program.specs.declared.line.ScriptWord.TheVariants as word
 use Rattle.fork_program.specs.Line.{Line, KindLine, PreferLine, DepthLine, TargetLine, EventLine, ContactLine, OtherLine, ChallengeLine, is_name, is_text, bare}
 
-abbrev pub word_of : List ℕ → Option Word
+abbrev pub word_of : List ℕ → Option ScriptWord
 word_of text =
     if bytes_eq text (codes "kind") then Some word.Kind
     else (if bytes_eq text (codes "prefer") then Some word.Prefer
@@ -75,7 +75,7 @@ abbrev pub read_challenge : List ℕ → Option Line
 read_challenge text = challenge_cut (cut (is 32) text)
 
 -- what stands behind the word and its space
-abbrev pub read_rest : Word → List ℕ → Option Line
+abbrev pub read_rest : ScriptWord → List ℕ → Option Line
 read_rest word.Kind rest = option_map KindLine (read_kind rest)
 read_rest word.Prefer rest = option_map PreferLine (read_preferred rest)
 read_rest word.Depth rest = option_map DepthLine (plain_number_within most_targets rest)
@@ -92,11 +92,11 @@ read_rest word.Other rest = option_map (λ p. OtherLine p.0 p.1) (read_texted re
 read_rest word.Challenge rest = read_challenge rest
 
 -- a line of one word
-abbrev pub read_alone : Word → Option Line
+abbrev pub read_alone : ScriptWord → Option Line
 read_alone word.Cancel = Some (EventLine Cancel)
 read_alone _ = None
 
-abbrev pub read_worded : Word → Option (List ℕ) → Option Line
+abbrev pub read_worded : ScriptWord → Option (List ℕ) → Option Line
 read_worded word None = read_alone word
 read_worded word (Some rest) = read_rest word rest
 

@@ -9,8 +9,8 @@ use Rattle.fork_model.specs.History.{Target}
 use Rattle.fork_text.specs.LineByLine.{lines_from}
 use Rattle.fork_text.specs.Pieces.{is_empty}
 use Rattle.fork_text.specs.RuleLines.{usual_rules}
-use Rattle.fork_program.specs.declared.script.Phase.{Phase}
-use Rattle.fork_program.specs.declared.script.Phase.TheVariants.{AtKind, AtPrefer, AtDepth, AtTargets, AtEvents, AtAnswer}
+use Rattle.fork_program.specs.declared.script.ScriptPhase.{ScriptPhase}
+use Rattle.fork_program.specs.declared.script.ScriptPhase.TheVariants.{AtKind, AtPrefer, AtDepth, AtTargets, AtEvents, AtAnswer}
 use Rattle.fork_program.specs.Line.{Line, KindLine, PreferLine, DepthLine, TargetLine, EventLine, ContactLine, OtherLine, ChallengeLine}
 use Rattle.fork_program.specs.Reading.{read_line}
 
@@ -21,13 +21,13 @@ pub record Script : Type 0 where
   pub events : List Event
 
 -- contacts and challenges may come right behind an answer alone
-abbrev pub phase_behind : Event → Phase
+abbrev pub phase_behind : Event → ScriptPhase
 phase_behind (Answer n answer) = AtAnswer
 phase_behind _ = AtEvents
 
 -- which line may come in which phase, and the phase behind it: the kind, then the preferred statuses and the
 -- depth if they are set, then the targets, then the events
-abbrev pub phase_after : Phase → Line → Option Phase
+abbrev pub phase_after : ScriptPhase → Line → Option ScriptPhase
 phase_after AtKind (KindLine kind) = Some AtPrefer
 phase_after AtKind _ = None
 phase_after AtPrefer (PreferLine statuses) = Some AtDepth
@@ -78,7 +78,7 @@ no_script = record { kind = Invite; rules = usual_rules; targets = []; events = 
 
 -- the lines read so far
 pub record Draft : Type 0 where
-  pub phase : Phase
+  pub phase : ScriptPhase
   pub script : Script
 
 abbrev pub no_draft : Draft
@@ -92,7 +92,7 @@ drafted_line draft line =
 abbrev pub drafted : Draft → List ℕ → Option Draft
 drafted draft line = option_and_then (drafted_line draft) (read_line line)
 
-abbrev pub has_kind : Phase → Bool
+abbrev pub has_kind : ScriptPhase → Bool
 has_kind AtKind = false
 has_kind _ = true
 

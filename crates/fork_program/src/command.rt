@@ -9,33 +9,33 @@ use std::alloc::Allocator;
 
 /// What is done with standard input.
 #[derive(Clone, Copy, Debug, PartialEq, Eq)]
-pub enum Command {
+pub enum TextCommand {
     /// A script is replayed.
     Replay,
     /// A listing is checked.
     Check,
 }
 
-impl Command {
-    fn named(word: &str) -> Option<Command>
+impl TextCommand {
+    fn named(word: &str) -> Option<TextCommand>
         ensures { result ≡ command_named word.now }
     {
         if word == "replay" {
-            Some(Command::Replay)
+            Some(TextCommand::Replay)
         } else if word == "check" {
-            Some(Command::Check)
+            Some(TextCommand::Check)
         } else {
             None
         }
     }
 
     /// What the arguments ask for, the program's name among them; where nothing stands behind it, a replay.
-    pub fn of(words: &[String]) -> Option<Command>
+    pub fn of(words: &[String]) -> Option<TextCommand>
         ensures { result ≡ command_of (map string_bytes words.now) }
     {
         match words {
-            [] | [_] => Some(Command::Replay),
-            [_, word] => Command::named(word.as_str()),
+            [] | [_] => Some(TextCommand::Replay),
+            [_, word] => TextCommand::named(word.as_str()),
             _ => None,
         }
     }
@@ -56,8 +56,8 @@ impl Command {
         ensures err { OnErr result (out.new.items ≡ out.old.items) }
     {
         match self {
-            Command::Replay => replay_text(alloc, text, out),
-            Command::Check => check_text(alloc, text, out),
+            TextCommand::Replay => replay_text(alloc, text, out),
+            TextCommand::Check => check_text(alloc, text, out),
         }
     }
 }

@@ -2,7 +2,7 @@
 ghost use Rattle.std.specs.Prelude.{◌≡◌};
 ghost use Rattle.fork_program.specs.FaultView.{exit_status};
 
-use crate::script::ReadFault;
+use crate::script::ScriptFault;
 use fork_context::NewFault;
 use std::alloc::AllocError;
 use thiserror::Error;
@@ -40,15 +40,15 @@ impl From<AllocError> for ProgFault {
     }
 }
 
-impl From<ReadFault> for ProgFault {
+impl From<ScriptFault> for ProgFault {
     ghost use Rattle.fork_program.specs.inner.FaultView.{fault_read};
 
     ghost from_gives = { λ read fault. fault ≡ fault_read read };
 
-    fn from(read: ReadFault) -> ProgFault {
+    fn from(read: ScriptFault) -> ProgFault {
         match read {
-            ReadFault::Line(number) => ProgFault::Line(number),
-            ReadFault::NoMemory => ProgFault::NoMemory,
+            ScriptFault::Line(number) => ProgFault::Line(number),
+            ScriptFault::NoMemory => ProgFault::NoMemory,
         }
     }
 }

@@ -14,7 +14,7 @@ mod replay;
 mod script;
 
 pub use check::{append_found, check_text};
-pub use command::Command;
+pub use command::TextCommand;
 pub use fault::{Fault, ProgFault};
 pub use input::read_input;
 pub use law::{
@@ -23,4 +23,4 @@ pub use law::{
 };
 pub use print::{append_ending, append_opening, append_reply};
 pub use replay::{MOST_TEXT, replay_text};
-pub use script::{Draft, Phase, ReadFault, Script};
+pub use script::{Script, ScriptDraft, ScriptFault, ScriptPhase};

@@ -12,7 +12,7 @@ ghost use Rattle.fork_program.specs.inner.LineView.{line_of};
 
 use fork_context::Kind;
 use fork_rank::{Preferred, RingStatus, Status};
-use fork_text::{Depth, read_depth, read_number, read_number_before, read_preferred};
+use fork_text::{Depth, read_depth, read_preferred, read_small_number, read_small_number_before};
 use sip_lex::cut_at;
 
 /// A q is in thousandths, and at most one.
@@ -20,7 +20,7 @@ const MOST_Q: u16 = 1000;
 
 /// The word that begins a line.
 #[derive(Clone, Copy, Debug, PartialEq, Eq)]
-pub enum Word {
+pub enum ScriptWord {
     Kind,
     Prefer,
     Depth,
@@ -41,7 +41,7 @@ pub enum Word {
 /// the lines behind it: `Contact` may be tried, `Other` may not; a `Challenge` is a value of Proxy-Authenticate where
 /// `proxy`, else of WWW-Authenticate.
 #[derive(Clone, Copy, Debug)]
-pub enum Line<'a> {
+pub enum ScriptLine<'a> {
     Kind(Kind),
     Prefer(Preferred),
     Depth(Depth),
@@ -58,37 +58,37 @@ pub enum Line<'a> {
     Challenge { proxy: bool, value: &'a [u8] },
 }
 
-fn word_of(text: &[u8]) -> Option<Word>
+fn word_of(text: &[u8]) -> Option<ScriptWord>
     ensures { result ≡ word_of text.now }
 {
     if text == b"kind".as_slice() {
-        Some(Word::Kind)
+        Some(ScriptWord::Kind)
     } else if text == b"prefer".as_slice() {
-        Some(Word::Prefer)
+        Some(ScriptWord::Prefer)
     } else if text == b"depth".as_slice() {
-        Some(Word::Depth)
+        Some(ScriptWord::Depth)
     } else if text == b"target".as_slice() {
-        Some(Word::Target)
+        Some(ScriptWord::Target)
     } else if text == b"ring".as_slice() {
-        Some(Word::Ring)
+        Some(ScriptWord::Ring)
     } else if text == b"answer".as_slice() {
-        Some(Word::Answer)
+        Some(ScriptWord::Answer)
     } else if text == b"timeout".as_slice() {
-        Some(Word::Timeout)
+        Some(ScriptWord::Timeout)
     } else if text == b"fault".as_slice() {
-        Some(Word::Fault)
+        Some(ScriptWord::Fault)
     } else if text == b"timerc".as_slice() {
-        Some(Word::TimerC)
+        Some(ScriptWord::TimerC)
     } else if text == b"giveup".as_slice() {
-        Some(Word::GiveUp)
+        Some(ScriptWord::GiveUp)
     } else if text == b"cancel".as_slice() {
-        Some(Word::Cancel)
+        Some(ScriptWord::Cancel)
     } else if text == b"contact".as_slice() {
-        Some(Word::Contact)
+        Some(ScriptWord::Contact)
     } else if text == b"other".as_slice() {
-        Some(Word::Other)
+        Some(ScriptWord::Other)
     } else if text == b"challenge".as_slice() {
-        Some(Word::Challenge)
+        Some(ScriptWord::Challenge)
     } else {
         None
     }
@@ -109,13 +109,13 @@ fn read_kind(text: &[u8]) -> Option<Kind>
 fn read_ring(digits: &[u8]) -> Option<RingStatus>
     ensures { result ≡ number_from 100 199 digits.now }
 {
-    RingStatus::of(read_number(digits, 199)?)
+    RingStatus::of(read_small_number(digits, 199)?)
 }
 
 fn read_status(digits: &[u8]) -> Option<Status>
     ensures { result ≡ number_from 200 699 digits.now }
 {
-    Status::of(read_number(digits, 699)?)
+    Status::of(read_small_number(digits, 699)?)
 }
 
 fn are_visible(bytes: &[u8]) -> bool
@@ -146,7 +146,7 @@ fn is_text(text: &[u8]) -> bool
 fn read_named(text: &[u8]) -> Option<(u16, &[u8])>
     ensures { seen_before result ≡ read_named text.now }
 {
-    let (q, name) = read_number_before(text, MOST_Q)?;
+    let (q, name) = read_small_number_before(text, MOST_Q)?;
     if is_name(name) { Some((q, name)) } else { None }
 }
 
@@ -154,7 +154,7 @@ fn read_named(text: &[u8]) -> Option<(u16, &[u8])>
 fn read_texted(text: &[u8]) -> Option<(u16, &[u8])>
     ensures { seen_before result ≡ read_texted text.now }
 {
-    let (q, other) = read_number_before(text, MOST_Q)?;
+    let (q, other) = read_small_number_before(text, MOST_Q)?;
     if is_text(other) {
         Some((q, other))
     } else {
@@ -176,7 +176,7 @@ fn read_asker(text: &[u8]) -> Option<bool>
 }
 
 /// The line of a challenge: whose it is, and its value.
-fn read_challenge(text: &[u8]) -> Option<Line<'_>>
+fn read_challenge(text: &[u8]) -> Option<ScriptLine<'_>>
     ensures { option_map line_of result ≡ read_challenge text.now }
 {
     match cut_at(text, b' ') {
@@ -184,7 +184,7 @@ fn read_challenge(text: &[u8]) -> Option<Line<'_>>
         (asker, Some(value)) => {
             let proxy = read_asker(asker)?;
             if is_text(value) {
-                Some(Line::Challenge { proxy, value })
+                Some(ScriptLine::Challenge { proxy, value })
             } else {
                 None
             }
@@ -193,55 +193,55 @@ fn read_challenge(text: &[u8]) -> Option<Line<'_>>
 }
 
 /// What stands behind a word and its space.
-fn read_rest(word: Word, rest: &[u8]) -> Option<Line<'_>>
+fn read_rest(word: ScriptWord, rest: &[u8]) -> Option<ScriptLine<'_>>
     ensures { option_map line_of result ≡ read_rest word rest.now }
 {
     match word {
-        Word::Kind => Some(Line::Kind(read_kind(rest)?)),
-        Word::Prefer => Some(Line::Prefer(read_preferred(rest)?)),
-        Word::Depth => Some(Line::Depth(read_depth(rest)?)),
-        Word::Target => {
+        ScriptWord::Kind => Some(ScriptLine::Kind(read_kind(rest)?)),
+        ScriptWord::Prefer => Some(ScriptLine::Prefer(read_preferred(rest)?)),
+        ScriptWord::Depth => Some(ScriptLine::Depth(read_depth(rest)?)),
+        ScriptWord::Target => {
             let (q, name) = read_named(rest)?;
-            Some(Line::Target(q, name))
+            Some(ScriptLine::Target(q, name))
         }
-        Word::Ring => {
-            let (n, status) = read_number_before(rest, u16::MAX)?;
-            Some(Line::Ring(n, read_ring(status)?))
+        ScriptWord::Ring => {
+            let (n, status) = read_small_number_before(rest, u16::MAX)?;
+            Some(ScriptLine::Ring(n, read_ring(status)?))
         }
-        Word::Answer => {
-            let (n, status) = read_number_before(rest, u16::MAX)?;
-            Some(Line::Answer(n, read_status(status)?))
+        ScriptWord::Answer => {
+            let (n, status) = read_small_number_before(rest, u16::MAX)?;
+            Some(ScriptLine::Answer(n, read_status(status)?))
         }
-        Word::Timeout => Some(Line::Timeout(read_number(rest, u16::MAX)?)),
-        Word::Fault => Some(Line::Fault(read_number(rest, u16::MAX)?)),
-        Word::TimerC => Some(Line::TimerC(read_number(rest, u16::MAX)?)),
-        Word::GiveUp => Some(Line::GiveUp(read_number(rest, u16::MAX)?)),
-        Word::Contact => {
+        ScriptWord::Timeout => Some(ScriptLine::Timeout(read_small_number(rest, u16::MAX)?)),
+        ScriptWord::Fault => Some(ScriptLine::Fault(read_small_number(rest, u16::MAX)?)),
+        ScriptWord::TimerC => Some(ScriptLine::TimerC(read_small_number(rest, u16::MAX)?)),
+        ScriptWord::GiveUp => Some(ScriptLine::GiveUp(read_small_number(rest, u16::MAX)?)),
+        ScriptWord::Contact => {
             let (q, name) = read_named(rest)?;
-            Some(Line::Contact(q, name))
+            Some(ScriptLine::Contact(q, name))
         }
-        Word::Other => {
+        ScriptWord::Other => {
             let (q, text) = read_texted(rest)?;
-            Some(Line::Other(q, text))
+            Some(ScriptLine::Other(q, text))
         }
-        Word::Challenge => read_challenge(rest),
-        Word::Cancel => None,
+        ScriptWord::Challenge => read_challenge(rest),
+        ScriptWord::Cancel => None,
     }
 }
 
 /// What stands behind a word, if anything.
-fn read_worded<'a>(word: Word, rest: Option<&'a [u8]>) -> Option<Line<'a>>
+fn read_worded<'a>(word: ScriptWord, rest: Option<&'a [u8]>) -> Option<ScriptLine<'a>>
     ensures { option_map line_of result ≡ read_worded word (option_copied rest.entry) }
 {
     match (word, rest) {
-        (Word::Cancel, None) => Some(Line::Cancel),
+        (ScriptWord::Cancel, None) => Some(ScriptLine::Cancel),
         (_, None) => None,
         (_, Some(rest)) => read_rest(word, rest),
     }
 }
 
 /// The line that a text spells.
-fn line_at(line: &[u8]) -> Option<Line<'_>>
+fn line_at(line: &[u8]) -> Option<ScriptLine<'_>>
     ensures { option_map line_of result ≡ read_line line.now }
 {
     let (word, rest) = cut_at(line, b' ');
@@ -250,7 +250,7 @@ fn line_at(line: &[u8]) -> Option<Line<'_>>
 
 /// The line that a text spells; `None` where it spells none. Words are separated by one space, and numbers have no
 /// leading zero.
-pub fn read_line(line: &[u8]) -> Option<Line<'_>>
+pub fn read_script_line(line: &[u8]) -> Option<ScriptLine<'_>>
     ensures value { option_map line_of result ≡ read_line line.now }
     // What is read is the spelling of a line, and each spelling of a line is read.
     ensures found { IfSome (option_map line_of result) (IsSpelledBy line.now) }

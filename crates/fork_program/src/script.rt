@@ -10,7 +10,7 @@ ghost use Rattle.fork_program.specs.ReadView.{GivesScript, IsFaultOf};
 ghost use Rattle.fork_program.specs.Script as spec;
 ghost use Rattle.fork_program.specs.Spelling.{Spells};
 
-use crate::line::{Line, read_line};
+use crate::line::{ScriptLine, read_script_line};
 use fork_context::{Answer, Event, Kind, Offer, Target};
 use fork_rank::{Challenge, Rules, Status};
 use fork_text::{with_depth, with_preferred};
@@ -22,7 +22,7 @@ use std::marker::Model;
 /// Which lines may come: the kind first, then the rules, then the targets, then events, with the contacts and the
 /// challenges of an answer right behind it.
 #[derive(Clone, Copy, Debug, PartialEq, Eq)]
-pub enum Phase {
+pub enum ScriptPhase {
     /// Nothing was read.
     AtKind,
     /// The kind was read.
@@ -37,31 +37,31 @@ pub enum Phase {
     AtAnswer,
 }
 
-impl Phase {
+impl ScriptPhase {
     /// The phase behind a line; `None` where the line may not come.
-    fn after(self, line: &Line<'_>) -> Option<Phase>
+    fn after(self, line: &ScriptLine<'_>) -> Option<ScriptPhase>
         ensures { result ≡ phase_after self (line_of line.now) }
     {
         match (self, line) {
-            (Phase::AtKind, Line::Kind(_)) => Some(Phase::AtPrefer),
-            (Phase::AtKind, _) => None,
-            (Phase::AtPrefer, Line::Prefer(_)) => Some(Phase::AtDepth),
-            (Phase::AtPrefer | Phase::AtDepth, Line::Depth(_)) => Some(Phase::AtTargets),
-            (Phase::AtPrefer | Phase::AtDepth | Phase::AtTargets, Line::Target(_, _)) => Some(
-                Phase::AtTargets,
+            (ScriptPhase::AtKind, ScriptLine::Kind(_)) => Some(ScriptPhase::AtPrefer),
+            (ScriptPhase::AtKind, _) => None,
+            (ScriptPhase::AtPrefer, ScriptLine::Prefer(_)) => Some(ScriptPhase::AtDepth),
+            (ScriptPhase::AtPrefer | ScriptPhase::AtDepth, ScriptLine::Depth(_)) => Some(ScriptPhase::AtTargets),
+            (ScriptPhase::AtPrefer | ScriptPhase::AtDepth | ScriptPhase::AtTargets, ScriptLine::Target(_, _)) => Some(
+                ScriptPhase::AtTargets,
             ),
-            (Phase::AtAnswer, Line::Contact(_, _) | Line::Other(_, _) | Line::Challenge { .. }) =>
-                Some(Phase::AtAnswer),
-            (_, Line::Answer(_, _)) => Some(Phase::AtAnswer),
+            (ScriptPhase::AtAnswer, ScriptLine::Contact(_, _) | ScriptLine::Other(_, _) | ScriptLine::Challenge { .. }) =>
+                Some(ScriptPhase::AtAnswer),
+            (_, ScriptLine::Answer(_, _)) => Some(ScriptPhase::AtAnswer),
             (
                 _,
-                Line::Ring(_, _)
-                | Line::Timeout(_)
-                | Line::Fault(_)
-                | Line::TimerC(_)
-                | Line::GiveUp(_)
-                | Line::Cancel,
-            ) => { Some(Phase::AtEvents) }
+                ScriptLine::Ring(_, _)
+                | ScriptLine::Timeout(_)
+                | ScriptLine::Fault(_)
+                | ScriptLine::TimerC(_)
+                | ScriptLine::GiveUp(_)
+                | ScriptLine::Cancel,
+            ) => { Some(ScriptPhase::AtEvents) }
             _ => None,
         }
     }
@@ -70,26 +70,26 @@ impl Phase {
     pub fn has_kind(self) -> bool
         ensures { result ≡ has_kind self }
     {
-        !matches!(self, Phase::AtKind)
+        !matches!(self, ScriptPhase::AtKind)
     }
 }
 
 /// Why a text is no script.
 #[derive(Clone, Copy, Debug, PartialEq, Eq)]
-pub enum ReadFault {
+pub enum ScriptFault {
     /// The first malformed line, from 1.
     Line(u32),
     /// A growth was refused.
     NoMemory,
 }
 
-impl From<AllocError> for ReadFault {
-    ghost use Rattle.fork_program.specs.declared.script.ReadFault.TheVariants as read;
+impl From<AllocError> for ScriptFault {
+    ghost use Rattle.fork_program.specs.declared.script.ScriptFault.TheVariants as read;
 
     ghost from_gives = { λ _ fault. fault ≡ read.NoMemory };
 
-    fn from(_refused: AllocError) -> ReadFault {
-        ReadFault::NoMemory
+    fn from(_refused: AllocError) -> ScriptFault {
+        ScriptFault::NoMemory
     }
 }
 
@@ -215,29 +215,29 @@ impl<A: Allocator + Clone> Script<A> {
     }
 
     /// Adds what a line says.
-    fn add(&mut self, alloc: &A, line: Line<'_>) -> Result<(), AllocError>
+    fn add(&mut self, alloc: &A, line: ScriptLine<'_>) -> Result<(), AllocError>
         requires { IsLine (line_of line) }
         ensures ok { OnOk result (self.new ≡ with_line self.old (line_of line.entry)) }
         ensures err { OnErr result (self.new ≡ self.old) }
     {
         match line {
-            Line::Kind(kind) => self.set_kind(kind),
-            Line::Prefer(preferred) => self.set_rules(with_preferred(self.rules, preferred)),
-            Line::Depth(depth) => self.set_rules(with_depth(self.rules, depth)),
-            Line::Target(q, name) => self.add_target(Target::new(name.to_vec(alloc.clone()?)?, q))?,
-            Line::Ring(n, status) => self.add_event(Event::Ring(n, status))?,
-            Line::Answer(n, status) => self.add_event(Event::Answer(
+            ScriptLine::Kind(kind) => self.set_kind(kind),
+            ScriptLine::Prefer(preferred) => self.set_rules(with_preferred(self.rules, preferred)),
+            ScriptLine::Depth(depth) => self.set_rules(with_depth(self.rules, depth)),
+            ScriptLine::Target(q, name) => self.add_target(Target::new(name.to_vec(alloc.clone()?)?, q))?,
+            ScriptLine::Ring(n, status) => self.add_event(Event::Ring(n, status))?,
+            ScriptLine::Answer(n, status) => self.add_event(Event::Answer(
                 n,
                 bare_answer(alloc, status)?,
             ))?,
-            Line::Timeout(n) => self.add_event(Event::Timeout(n))?,
-            Line::Fault(n) => self.add_event(Event::Fault(n))?,
-            Line::TimerC(n) => self.add_event(Event::TimerC(n))?,
-            Line::GiveUp(n) => self.add_event(Event::GiveUp(n))?,
-            Line::Cancel => self.add_event(Event::Cancel)?,
-            Line::Contact(q, name) => self.add_contact(contact(alloc, q, name)?)?,
-            Line::Other(q, text) => self.add_contact(other(alloc, q, text)?)?,
-            Line::Challenge { proxy, value } => {
+            ScriptLine::Timeout(n) => self.add_event(Event::Timeout(n))?,
+            ScriptLine::Fault(n) => self.add_event(Event::Fault(n))?,
+            ScriptLine::TimerC(n) => self.add_event(Event::TimerC(n))?,
+            ScriptLine::GiveUp(n) => self.add_event(Event::GiveUp(n))?,
+            ScriptLine::Cancel => self.add_event(Event::Cancel)?,
+            ScriptLine::Contact(q, name) => self.add_contact(contact(alloc, q, name)?)?,
+            ScriptLine::Other(q, text) => self.add_contact(other(alloc, q, text)?)?,
+            ScriptLine::Challenge { proxy, value } => {
                 let value = value.to_vec(alloc.clone()?)?;
                 self.add_challenge(Challenge::new(proxy, value))?;
             }
@@ -272,12 +272,12 @@ fn other<A: Allocator + Clone>(alloc: &A, q: u16, text: &[u8]) -> Result<Offer<A
 
 /// The lines read so far: which may come next, and what those before it say.
 #[derive(Drop)]
-pub struct Draft<A: Allocator> {
-    pub phase: Phase,
+pub struct ScriptDraft<A: Allocator> {
+    pub phase: ScriptPhase,
     pub script: Script<A>,
 }
 
-impl<A: Allocator> Model for Draft<A> {
+impl<A: Allocator> Model for ScriptDraft<A> {
     ghost use Rattle.fork_program.specs.Script as spec;
 
     ghost Value = { spec.Draft };
@@ -285,7 +285,7 @@ impl<A: Allocator> Model for Draft<A> {
     ghost view = { λ d. record { phase = d.phase; script = d.script } };
 }
 
-impl<A: Allocator + Clone> Draft<A> {
+impl<A: Allocator + Clone> ScriptDraft<A> {
     /// No line was read.
     ///
     /// # Errors
@@ -294,8 +294,8 @@ impl<A: Allocator + Clone> Draft<A> {
     pub fn new(alloc: &A) -> Result<Self, AllocError>
         ensures { IfOk result (λ draft. draft ≡ no_draft) }
     {
-        Ok(Draft {
-            phase: Phase::AtKind,
+        Ok(ScriptDraft {
+            phase: ScriptPhase::AtKind,
             script: Script::new(alloc)?,
         })
     }
@@ -310,7 +310,7 @@ impl<A: Allocator + Clone> Draft<A> {
         ensures left { IfOk result (λ added. added ≡ false → self.new ≡ self.old) }
         ensures err { OnErr result (self.new ≡ self.old) }
     {
-        let Some(line) = read_line(text) else {
+        let Some(line) = read_script_line(text) else {
             return Ok(false);
         };
         let Some(phase) = self.phase.after(&line) else {
@@ -322,13 +322,13 @@ impl<A: Allocator + Clone> Draft<A> {
     }
 
     /// The whole script, where nothing stands behind its last LF and it has a kind.
-    fn finished(self, number: u32, rest: &[u8]) -> Result<Script<A>, ReadFault>
+    fn finished(self, number: u32, rest: &[u8]) -> Result<Script<A>, ScriptFault>
         ensures { GivesScript (finished_draft number self rest.now) result }
     {
         if rest.is_empty() && self.phase.has_kind() {
             Ok(self.script)
         } else {
-            Err(ReadFault::Line(number))
+            Err(ScriptFault::Line(number))
         }
     }
 }
@@ -336,11 +336,11 @@ impl<A: Allocator + Clone> Draft<A> {
 impl<A: Allocator + Clone> Script<A> {
     /// The script that the lines of a text say, one after the other.
     #[tactic(auto, unfolding(crate::specs::Script::read_script))]
-    fn read_lines(alloc: &A, text: &[u8]) -> Result<Self, ReadFault>
+    fn read_lines(alloc: &A, text: &[u8]) -> Result<Self, ScriptFault>
         requires { length text.now < 2 ^ 31 }
         ensures { GivesScript (read_script text.now) result }
     {
-        let mut draft = Draft::new(alloc)?;
+        let mut draft = ScriptDraft::new(alloc)?;
         let mut number = 1;
         let mut rest = text;
         loop {
@@ -349,7 +349,7 @@ impl<A: Allocator + Clone> Script<A> {
                 return draft.finished(number, line);
             };
             if !draft.add(alloc, line)? {
-                return Err(ReadFault::Line(number));
+                return Err(ScriptFault::Line(number));
             }
             number += 1;
             rest = after;
@@ -361,7 +361,7 @@ impl<A: Allocator + Clone> Script<A> {
     /// # Errors
     ///
     /// The first malformed line, counted from 1, a missing one by the number that it would have; or want of memory.
-    pub fn read(alloc: &A, text: &[u8]) -> Result<Self, ReadFault>
+    pub fn read(alloc: &A, text: &[u8]) -> Result<Self, ScriptFault>
         requires { length text.now < 2 ^ 31 }
         ensures found { IfOk result (Spells text.now) }
         ensures only { (script : spec.Script) → Spells text.now script → GivesScript (Ok script) result }

@@ -9,10 +9,10 @@ ghost use Rattle.fork_drive.specs.Asked.{asked_for, Writes, IsAnswerFault};
 ghost use Rattle.fork_proxy.specs.Ending.{Serves, IsServeFailure, exit_status, status_of, told};
 
 use config_form::Malformed;
-use fork_drive::Asked;
+use fork_drive::ProgramCommand;
 use fork_program::{Fault, ProgFault, read_input};
 use log::Log;
-use proxy_server::{ServeFault, serve, turns_asked};
+use proxy_server::{ServeFault, parse_serve_args, serve};
 use std::alloc::{AllocError, Global};
 use std::io::{ErrorKind, Print, Read, Write};
 use std::net::Net;
@@ -76,7 +76,7 @@ fn words(rt: &HostRuntime) -> Result<Vec<String>, Fault>
 ///
 /// # Errors
 ///
-/// `Usage`, where the words ask for no command; then those of [`Asked::answer`].
+/// `Usage`, where the words ask for no command; then those of [`ProgramCommand::answer`].
 fn answered<R: Threads + Wait + Sync, I: Read, O: Write>(
     rt: &R,
     alloc: Global,
@@ -88,7 +88,7 @@ fn answered<R: Threads + Wait + Sync, I: Read, O: Write>(
     ensures written { IfOk result (λ status. IfSome (asked_for (map string_bytes words.now)) (λ asked. Writes asked (I.remaining input.old) (O.contents output.old) (O.contents output.new) status)) }
     ensures fault { IfErr result (λ fault. IfSome (asked_for (map string_bytes words.now)) (λ asked. IsAnswerFault asked (I.remaining input.old) fault)) }
 {
-    match Asked::of(words) {
+    match ProgramCommand::of(words) {
         Some(asked) => asked.answer(rt, alloc, input, output),
         None => Err(Fault::Usage),
     }
@@ -147,7 +147,7 @@ fn run<R: Threads + Wait + Net + Print + Log + Sync>(
 ) -> Result<u8, Failure> {
     let words = words(rt).map_err(Failure::Answer)?;
     let input = &mut rt.reader();
-    match turns_asked(&words) {
+    match parse_serve_args(&words) {
         Some(turns) => served(handle, rt.alloc(), input, turns),
         None => answered(handle, rt.alloc(), &words, input, &mut io::writer(handle)).map_err(
             Failure::Answer,

@@ -2,15 +2,12 @@
 use crate::bytes::is;
 use crate::holds::holds;
 use fork_rank::Rules;
-use fork_text::{
-    append, append_depth, append_list, append_preferred, read_depth, read_number,
-    read_number_before, read_preferred, with_depth, with_preferred,
-};
+use fork_text::{append, append_depth, append_list, append_preferred, read_depth, read_preferred, read_small_number, read_small_number_before, with_depth, with_preferred};
 use std::alloc::Global;
 
 /// The number before a space, where the rest is this.
 fn number_before(text: &str, rest: &str) -> Option<u16> {
-    match read_number_before(text.as_bytes(), 1000) {
+    match read_small_number_before(text.as_bytes(), 1000) {
         Some((n, behind)) if behind == rest.as_bytes() => Some(n),
         _ => None,
     }
@@ -82,15 +79,15 @@ fn is_listed(alloc: Global, numbers: &[u16], wanted: &[u8]) -> bool {
 fn fields_are_read(rt: HostRuntime) {
     holds(
         &rt,
-        read_number(b"499", 499) == Some(499),
+        read_small_number(b"499", 499) == Some(499),
         "a number at its limit",
     );
     holds(
         &rt,
-        read_number(b"500", 499).is_none(),
+        read_small_number(b"500", 499).is_none(),
         "a number over its limit",
     );
-    holds(&rt, read_number(b"07", 499).is_none(), "a leading zero");
+    holds(&rt, read_small_number(b"07", 499).is_none(), "a leading zero");
     holds(
         &rt,
         number_before("1000 a b", "a b") == Some(1000),

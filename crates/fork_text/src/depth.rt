@@ -4,7 +4,7 @@ ghost use Rattle.std.specs.Option.{option_map};
 ghost use Rattle.sip_lex.specs.Number.{plain_number_within};
 ghost use Rattle.fork_model.specs.Table.{most_targets};
 
-use crate::field::read_number;
+use crate::field::read_small_number;
 use fork_rank::{MOST_TARGETS, Rules};
 
 /// How many steps below a first target contacts are still tried.
@@ -18,7 +18,7 @@ pub struct Depth {
 pub fn read_depth(digits: &[u8]) -> Option<Depth>
     ensures { option_map (λ depth. depth.steps) result ≡ plain_number_within most_targets digits.now }
 {
-    let steps = read_number(digits, MOST_TARGETS)?;
+    let steps = read_small_number(digits, MOST_TARGETS)?;
     Some(Depth { steps })
 }
 

@@ -11,6 +11,6 @@ mod preferred;
 mod write;
 
 pub use depth::{Depth, read_depth, with_depth};
-pub use field::{read_number, read_number_before};
+pub use field::{read_small_number, read_small_number_before};
 pub use preferred::{read_preferred, with_preferred};
 pub use write::{append, append_depth, append_list, append_preferred};

@@ -6,7 +6,7 @@ ghost use Rattle.sip_lex.specs.Cut.{is};
 ghost use Rattle.fork_rank.specs.Preferred.{IsPreferredList};
 ghost use Rattle.fork_text.specs.Preferred.{list_text, numbers_onto, preferred_if, read_preferred};
 
-use crate::field::read_number;
+use crate::field::read_small_number;
 use arrayvec::ArrayVec;
 use fork_rank::{MOST_PREFERRED, Preferred, Rules};
 use sip_lex::cut_at;
@@ -22,7 +22,7 @@ fn read_numbers(text: &[u8]) -> Option<ArrayVec<u16, MOST_PREFERRED>>
     let mut rest = text;
     loop {
         let (digits, more) = cut_at(rest, b',');
-        let Some(number) = read_number(digits, MOST_STATUS) else {
+        let Some(number) = read_small_number(digits, MOST_STATUS) else {
             return None;
         };
         if numbers.is_full() {

@@ -1,6 +1,6 @@
 -- What a node keeps is the best, and its count that, of the rows at or below its number.
 use Rattle.fork_tree.proofs.Common.{◌≡◌, ℕ, suc, ◌+◌, ◌<◌, ◌&&◌, inl, inr, Bool, true, false, IsTrue, not, List, [], ◌∷◌, length, Option, Some, None, slice_get, refl, ap, sym, subst, ◌∙◌, arith, if◌then◌else◌, is_some, option_map, Row, Rules}
-use Rattle.fork_tree.proofs.Common.{is_ended, stored_of, Rank, Score, RanksBefore, rank_of, HasScore, score_of, stored_at, RankedAnswer, Summary, Place, has_ended, Cell, Entry, find, path_of, row_at, rows_of, IsPlaced, AreOlder, HasKept, IsKept, best_of}
+use Rattle.fork_tree.proofs.Common.{is_ended, stored_of, Rank, Score, RanksBefore, rank_of, HasScore, score_of, stored_at, RankedAnswer, Summary, NodePlace, has_ended, Cell, Entry, find, path_of, row_at, rows_of, IsPlaced, AreOlder, HasKept, IsKept, best_of}
 use Rattle.fork_tree.proofs.Common.{open_of, AreListed, AreRanked, IsTree, Tree, score_of_ref, leads, lies_below, open_where, open_below, stripped, put_under, under, common_steps, rules}
 use Rattle.fork_model.specs.Rank.{Before}
 use Rattle.fork_tree.specs.Below.{IsBestBelow, IsSubtree}
@@ -13,20 +13,20 @@ use Rattle.fork_tree.proofs.Chains.{up_of, lies_same, GoesOn, leads_on, on_leads
 
 -- ---- the walk by parents
 
-pub further_there : (all : List Place) (root node : List Entry) (n m : ℕ) (p : Place) → AreOlder all → IsPlaced all root → n < length all → slice_get all n ≡ Some p → p.parent ≡ Some m
+pub further_there : (all : List NodePlace) (root node : List Entry) (n m : ℕ) (p : NodePlace) → AreOlder all → IsPlaced all root → n < length all → slice_get all n ≡ Some p → p.parent ≡ Some m
     → node ≡ under (path_of all m) root → IsTrue (is_some (find node (p.group ∷ p.place ∷ [])))
 further_there all root node n m p older placed lt is up e = grind (arith, find_under, path_below)
 
 -- ---- the best
 
-score_below : (rules : Rules) (all : List Place) (root : List Entry) (n m : ℕ) (score : Score) → AreOlder all → AreRanked rules root → IsTrue (lies_below (rows_of all root) n m)
+score_below : (rules : Rules) (all : List NodePlace) (root : List Entry) (n m : ℕ) (score : Score) → AreOlder all → AreRanked rules root → IsTrue (lies_below (rows_of all root) n m)
     → HasScore (rows_of all root) m score → ScoreKept rules (under (path_of all n) root) score
 score_below rules all root n m score older ranked below h = go (slice_get (rows_of all root) m) refl h
   where
     on : GoesOn all n m
     on = leads_on all n m m older (sym (lies_same all root n m) ∙ below)
 
-    cell : (p : Place) (o : Option Cell) → find root (path_of all m) ≡ o → option_map score_of (stored_of (row_at p o).state) ≡ Some score → ScoreKept rules (under (path_of all n) root) score
+    cell : (p : NodePlace) (o : Option Cell) → find root (path_of all m) ≡ o → option_map score_of (stored_of (row_at p o).state) ≡ Some score → ScoreKept rules (under (path_of all n) root) score
     cell p None e h = absurd cc
     cell p (Some c) e h =
         let found = stored_state rules c.number c.standing.state score h in (
@@ -48,7 +48,7 @@ record KeptBelow (rules : Rules) (rows : List Row) (n : ℕ) (k : RankedAnswer) 
   pub below : IsTrue (lies_below rows n k.best.no)
   pub score : KeptScore rules rows k
 
-kept_below : (rules : Rules) (all : List Place) (root es : List Entry) (n : ℕ) (k : RankedAnswer) → AreOlder all → IsPlaced all root → n < length all → AreListed all root es → AreRanked rules es
+kept_below : (rules : Rules) (all : List NodePlace) (root es : List Entry) (n : ℕ) (k : RankedAnswer) → AreOlder all → IsPlaced all root → n < length all → AreListed all root es → AreRanked rules es
     → HasKept (under (path_of all n) es) k → KeptBelow rules (rows_of all root) n k
 kept_below rules all root [] n k older placed lt l r h = absurd h
 kept_below rules all root (e ∷ es) n k older placed lt l r h = go (stripped (path_of all n) e.path) refl h (λ t. kept_below rules all root es n k older placed lt l.1 r.1 t)
@@ -67,7 +67,7 @@ kept_below rules all root (e ∷ es) n k older placed lt l r h = go (stripped (p
     go None f h again = again h
     go (Some q) f h again = elim h [ inl a ↦ own q f a | inr t ↦ again t ]
 
-best_below : (rules : Rules) (all : List Place) (root : List Entry) (n : ℕ) (kept : Option RankedAnswer) → AreOlder all → IsPlaced all root → n < length all → AreListed all root root
+best_below : (rules : Rules) (all : List NodePlace) (root : List Entry) (n : ℕ) (kept : Option RankedAnswer) → AreOlder all → IsPlaced all root → n < length all → AreListed all root root
     → AreRanked rules root → IsKept (under (path_of all n) root) kept → IsBestBelow rules (rows_of all root) n (best_of kept)
 best_below rules all root n None older placed lt listed ranked k = grind (arith, common_steps, score_below)
 best_below rules all root n (Some b) older placed lt listed ranked k =
@@ -85,10 +85,10 @@ best_below rules all root n (Some b) older placed lt listed ranked k =
 
 -- ---- the count
 
-abbrev open_cell : List Place → ℕ → Cell → Bool
+abbrev open_cell : List NodePlace → ℕ → Cell → Bool
 open_cell all n c = leads (up_of all) n c.number c.number && not (has_ended c.standing.state)
 
-opens_below : (all : List Place) (root es : List Entry) (n : ℕ) → AreOlder all → IsPlaced all root → n < length all → AreListed all root es
+opens_below : (all : List NodePlace) (root es : List Entry) (n : ℕ) → AreOlder all → IsPlaced all root → n < length all → AreListed all root es
     → open_of (under (path_of all n) es) ≡ passing (open_cell all n) es
 opens_below all root [] n older placed lt l = refl
 opens_below all root (e ∷ es) n older placed lt l = go (stripped (path_of all n) e.path) refl (opens_below all root es n older placed lt l.1)
@@ -121,7 +121,7 @@ where_passing : (f g : ℕ → Bool) (k : ℕ) (rows : List Row) → ((i : ℕ) 
 where_passing f g k [] h = refl
 where_passing f g k (row ∷ rows) h = grind (arith, where_passing f g (suc k) rows h)
 
-pub count_below : (all : List Place) (root : List Entry) (n : ℕ) → AreOlder all → IsPlaced all root → n < length all → AreListed all root root → length root ≡ length all
+pub count_below : (all : List NodePlace) (root : List Entry) (n : ℕ) → AreOlder all → IsPlaced all root → n < length all → AreListed all root root → length root ≡ length all
     → open_of (under (path_of all n) root) ≡ open_below (rows_of all root) n
 count_below all root n older placed lt listed sized =
     opens_below all root root n older placed lt listed
@@ -131,6 +131,6 @@ count_below all root n older placed lt listed sized =
 
 -- ---- the node
 
-pub is_subtree : (rules : Rules) (all : List Place) (root node : List Entry) (t : Summary) (now : Tree) (n : ℕ) → record { rules = rules; rows = rows_of all root } ≡ now
+pub is_subtree : (rules : Rules) (all : List NodePlace) (root node : List Entry) (t : Summary) (now : Tree) (n : ℕ) → record { rules = rules; rows = rows_of all root } ≡ now
     → IsTree rules all root t → n < length all → node ≡ under (path_of all n) root → IsSubtree now n node
 is_subtree rules all root node t now n v was lt e = grind (arith, rows_length, best_below, count_below)

@@ -29,7 +29,7 @@ pub use Rattle.fork_tree.specs.States.{has_ended, plain_state}
 pub use Rattle.fork_tree.specs.Summary.{HasKept, IsKept, IsNode, best_of, open_of, open_state}
 pub use Rattle.fork_tree.specs.Tree.{IsBest, Tree, open_rows, row_ref, score_of_ref}
 pub use Rattle.fork_tree.specs.declared.new_row.NewRow.{NewRow}
-pub use Rattle.fork_tree.specs.declared.place.Place.{Place}
+pub use Rattle.fork_tree.specs.declared.place.NodePlace.{NodePlace}
 pub use Rattle.fork_tree.specs.declared.row.End.TheVariants.{Accepted, Never, Silent, Stored, Taken}
 pub use Rattle.fork_tree.specs.declared.row.RowRef.{RowRef}
 pub use Rattle.fork_tree.specs.declared.row.State.{State}

@@ -1,5 +1,5 @@
 -- The branches that have not ended are as many by number as in the tree.
-use Rattle.fork_tree.proofs.Common.{◌≡◌, ℕ, zero, suc, ◌+◌, ◌<◌, ◌≤◌, Bool, true, false, not, List, [], ◌∷◌, length, Option, Some, None, refl, ap, sym, ◌∙◌, arith, if◌then◌else◌, eqb, eq-eqb, Row, is_ended, Place, has_ended, Rules, Tree, plain_state}
+use Rattle.fork_tree.proofs.Common.{◌≡◌, ℕ, zero, suc, ◌+◌, ◌<◌, ◌≤◌, Bool, true, false, not, List, [], ◌∷◌, length, Option, Some, None, refl, ap, sym, ◌∙◌, arith, if◌then◌else◌, eqb, eq-eqb, Row, is_ended, NodePlace, has_ended, Rules, Tree, plain_state}
 use Rattle.fork_tree.proofs.Common.{Cell, Entry, same, find, open_of, path_of, number_of, IsPlaced, row_at, rows_from, rows_of, open_rows, ne_eqb, common_steps}
 use Rattle.fork_model.specs.Table as spec
 use Rattle.fork_tree.proofs.Placed.{ended_plain}
@@ -69,7 +69,7 @@ passing_rows r k (row ∷ rows) = one (r k row.state) + passing_rows r (suc k) r
 abbrev pub Agree : (Cell → Bool) → (ℕ → spec.State → Bool) → Type 0
 Agree t r = (c : Cell) → r c.number (plain_state c.standing.state) ≡ t c
 
-rows_le : (t : Cell → Bool) (r : ℕ → spec.State → Bool) (all : List Place) (root : List Entry) (k : ℕ) (ps : List Place)
+rows_le : (t : Cell → Bool) (r : ℕ → spec.State → Bool) (all : List NodePlace) (root : List Entry) (k : ℕ) (ps : List NodePlace)
     → Agree t r → IsPlaced all root → k + length ps ≤ length all
     → passing_rows r k (rows_from all root k ps) ≤ passing_from t k (length ps) root
 rows_le t r all root k [] agree placed le = omega arith
@@ -99,17 +99,17 @@ open_rows_are : (k : ℕ) (rows : List Row) → open_rows rows ≡ passing_rows 
 open_rows_are k [] = refl
 open_rows_are k (r ∷ rs) = grind (arith, open_rows_are (suc k) rs)
 
-pub rows_length : (all : List Place) (root : List Entry) (k : ℕ) (ps : List Place) → length (rows_from all root k ps) ≡ length ps
+pub rows_length : (all : List NodePlace) (root : List Entry) (k : ℕ) (ps : List NodePlace) → length (rows_from all root k ps) ≡ length ps
 rows_length all root k [] = refl
 rows_length all root k (p ∷ ps) = omega (arith, rows_length all root (suc k) ps)
 
 -- the rows of a tree as callers see it
-pub rows_count : (rules : Rules) (all : List Place) (root : List Entry) (now : Tree) → record { rules = rules; rows = rows_of all root } ≡ now
+pub rows_count : (rules : Rules) (all : List NodePlace) (root : List Entry) (now : Tree) → record { rules = rules; rows = rows_of all root } ≡ now
     → length now.rows ≡ length all
 rows_count rules all root now v = sym (ap (λ (t : Tree). length t.rows) v) ∙ rows_length all root 0 all
 
 -- as many branches pass as rows
-pub passing_agree : (t : Cell → Bool) (r : ℕ → spec.State → Bool) (all : List Place) (root : List Entry) → Agree t r → IsPlaced all root → length root ≡ length all
+pub passing_agree : (t : Cell → Bool) (r : ℕ → spec.State → Bool) (all : List NodePlace) (root : List Entry) → Agree t r → IsPlaced all root → length root ≡ length all
     → passing t root ≡ passing_rows r 0 (rows_of all root)
 passing_agree t r all root agree placed sized =
     omega (
@@ -124,5 +124,5 @@ passing_agree t r all root agree placed sized =
       from_le (λ c. not (t c)) 0 (length all) root,
     )
 
-pub counts_agree : (all : List Place) (root : List Entry) → IsPlaced all root → length root ≡ length all → open_of root ≡ open_rows (rows_of all root)
+pub counts_agree : (all : List NodePlace) (root : List Entry) → IsPlaced all root → length root ≡ length all → open_of root ≡ open_rows (rows_of all root)
 counts_agree all root placed sized = grind (arith, common_steps, opens_are root, open_rows_are 0 (rows_of all root), passing_agree, ended_plain)

@@ -1,6 +1,6 @@
 -- A row ends, and new rows come below it.
 use Rattle.fork_tree.proofs.Common.{◌-◌, ltb-true, ltb-false, ◌≡◌, ℕ, zero, suc, ◌+◌, ◌<◌, ◌≤◌, Bool, true, false, IsTrue, List, [], ◌∷◌, ◌++◌, length, map, Option, Some, None, slice_get, refl, ap, sym, subst, ◌∙◌, arith, length-append}
-use Rattle.fork_tree.proofs.Common.{if◌then◌else◌, nat_lt, eq-eqb, Row, Rules, is_row, is_open, most_targets, with_state, BranchState, Summary, NewRow, Place, plain_state, Cell, Entry, same, find, led, in_standing, changed, with_branch, Better, above}
+use Rattle.fork_tree.proofs.Common.{if◌then◌else◌, nat_lt, eq-eqb, Row, Rules, is_row, is_open, most_targets, with_state, BranchState, Summary, NewRow, NodePlace, plain_state, Cell, Entry, same, find, led, in_standing, changed, with_branch, Better, above}
 use Rattle.fork_tree.proofs.Common.{path_at, path_to, path_of, row_at, rows_from, rows_of, number_of, IsPlaced, AreOlder, waiting_row, new_entries, place_in, AreListed, AreRanked, IsTree, kept_of, is_unended, there_at, get_map, get_left, get_right}
 use Rattle.fork_tree.proofs.Common.{length-map, Changes, slice_get_within, common_steps, rules}
 use Rattle.fork_tree.specs.Listed.{IsAt}
@@ -11,31 +11,31 @@ use Rattle.fork_tree.proofs.Opening.{AreRising, new_row_path, new_row_cell, find
 
 -- ---- paths when rows are added
 
-abbrev pub grown : List Place → ℕ → List NewRow → List Place
+abbrev pub grown : List NodePlace → ℕ → List NewRow → List NodePlace
 grown all n new_rows = all ++ map (place_in (Some n)) new_rows
 
-pub path_kept : (all more : List Place) (steps n : ℕ) → AreOlder all → n < length all → path_to (all ++ more) steps n ≡ path_to all steps n
+pub path_kept : (all more : List NodePlace) (steps n : ℕ) → AreOlder all → n < length all → path_to (all ++ more) steps n ≡ path_to all steps n
 path_kept all more zero n old h = refl
 path_kept all more (suc steps) n old h =
     ap (λ o. path_at o (path_to (all ++ more) steps)) (get_left all more n h)
     ∙ at (λ (m : ℕ) (k : m < n). path_kept all more steps m old (omega (arith, k, h))) (slice_get all n) refl
   where
-    up : ((m : ℕ) → m < n → path_to (all ++ more) steps m ≡ path_to all steps m) → (p : Place) → slice_get all n ≡ Some p → (o : Option ℕ) → p.parent ≡ o
+    up : ((m : ℕ) → m < n → path_to (all ++ more) steps m ≡ path_to all steps m) → (p : NodePlace) → slice_get all n ≡ Some p → (o : Option ℕ) → p.parent ≡ o
         → above o (path_to (all ++ more) steps) ≡ above o (path_to all steps)
     up again p is None e = refl
     up again p is (Some m) e = again m (old n p m is e)
 
-    at : ((m : ℕ) → m < n → path_to (all ++ more) steps m ≡ path_to all steps m) → (o : Option Place) → slice_get all n ≡ o
+    at : ((m : ℕ) → m < n → path_to (all ++ more) steps m ≡ path_to all steps m) → (o : Option NodePlace) → slice_get all n ≡ o
         → path_at o (path_to (all ++ more) steps) ≡ path_at o (path_to all steps)
     at again None e = refl
     at again (Some p) e = ap (λ x. x ++ p.group ∷ p.place ∷ []) (up again p e p.parent refl)
 
-new_parent : (n : ℕ) (new_rows : List NewRow) (i : ℕ) (p : Place) (up : ℕ) → slice_get (map (place_in (Some n)) new_rows) i ≡ Some p → p.parent ≡ Some up → up ≡ n
+new_parent : (n : ℕ) (new_rows : List NewRow) (i : ℕ) (p : NodePlace) (up : ℕ) → slice_get (map (place_in (Some n)) new_rows) i ≡ Some p → p.parent ≡ Some up → up ≡ n
 new_parent n [] i p up h e = absurd cc
 new_parent n (s ∷ new_rows) zero p up h e = grind arith
 new_parent n (s ∷ new_rows) (suc i) p up h e = new_parent n new_rows i p up h e
 
-pub older_grown : (all : List Place) (n : ℕ) (new_rows : List NewRow) → AreOlder all → n < length all → AreOlder (grown all n new_rows)
+pub older_grown : (all : List NodePlace) (n : ℕ) (new_rows : List NewRow) → AreOlder all → n < length all → AreOlder (grown all n new_rows)
 older_grown all n new_rows old lt m p up is e = go (nat_lt m (length all)) refl
   where
     go : (b : Bool) → nat_lt m (length all) ≡ b → up < m
@@ -47,7 +47,7 @@ older_grown all n new_rows old lt m p up is e = go (nat_lt m (length all)) refl
         omega (arith, far, lt, new_parent n new_rows (m - length all) p up there e)
 
 -- the places with those of the new rows
-pub added : (parent : Option ℕ) (items old all : List Place) (given new_rows : List NewRow) → items ≡ old ++ map (place_in parent) given → old ≡ all
+pub added : (parent : Option ℕ) (items old all : List NodePlace) (given new_rows : List NewRow) → items ≡ old ++ map (place_in parent) given → old ≡ all
     → given ≡ new_rows
     → items ≡ all ++ map (place_in parent) new_rows
 added parent items old all given new_rows e f g = e ∙ ap (λ x. x ++ map (place_in parent) given) f ∙ ap (λ x. all ++ map (place_in parent) x) g
@@ -93,18 +93,18 @@ find_below (e ∷ es) p k q s b c d there none is =
 -- ---- the situation
 
 -- row n of this tree has not ended, so nothing stands below it
-pub record IsEnding (all : List Place) (root : List Entry) (n : ℕ) (new_rows : List NewRow) : Type 0 where
+pub record IsEnding (all : List NodePlace) (root : List Entry) (n : ℕ) (new_rows : List NewRow) : Type 0 where
   pub older : AreOlder all
   pub placed : IsPlaced all root
   pub known : n < length all
   pub alone : (k : ℕ) (rest : List ℕ) → find root (path_of all n ++ k ∷ rest) ≡ None
   pub rise : AreRising new_rows
 
-abbrev pub ended_root : List Place → List Entry → ℕ → BranchState → List NewRow → List Entry
+abbrev pub ended_root : List NodePlace → List Entry → ℕ → BranchState → List NewRow → List Entry
 ended_root all root n s new_rows = with_branch root (path_of all n) s (new_entries (length all) new_rows)
 
 -- the paths of other rows lead to none of the new ones
-pub others : (all : List Place) (root : List Entry) (n : ℕ) (new_rows : List NewRow) → IsEnding all root n new_rows → IsElse all n (new_entries (length all) new_rows)
+pub others : (all : List NodePlace) (root : List Entry) (n : ℕ) (new_rows : List NewRow) → IsEnding all root n new_rows → IsElse all n (new_entries (length all) new_rows)
 others all root n new_rows is m lm differ = go (length all) new_rows
   where
     apart : (k : ℕ) (rest : List ℕ) → path_of all m ≡ path_of all n ++ k ∷ rest → ⊥
@@ -124,27 +124,27 @@ others all root n new_rows is m lm differ = go (length all) new_rows
 abbrev pub Found : List Entry → List ℕ → Type 0
 Found root path = (c : Cell) × (find root path ≡ Some c)
 
-pub there : (all : List Place) (root : List Entry) (n : ℕ) → IsPlaced all root → n < length all → Found root (path_of all n)
+pub there : (all : List NodePlace) (root : List Entry) (n : ℕ) → IsPlaced all root → n < length all → Found root (path_of all n)
 there all root n placed lt = go (find root (path_of all n)) refl (placed n lt)
   where
     go : (o : Option Cell) → find root (path_of all n) ≡ o → number_of o ≡ Some n → Found root (path_of all n)
     go None e h = absurd cc
     go (Some c) e h = (c, e)
 
-pub old_path : (all : List Place) (root : List Entry) (n : ℕ) (new_rows : List NewRow) (m : ℕ) → IsEnding all root n new_rows → m < length all → path_of (grown all n new_rows) m ≡ path_of all m
+pub old_path : (all : List NodePlace) (root : List Entry) (n : ℕ) (new_rows : List NewRow) (m : ℕ) → IsEnding all root n new_rows → m < length all → path_of (grown all n new_rows) m ≡ path_of all m
 old_path all root n new_rows m is lm = path_kept all (map (place_in (Some n)) new_rows) (suc m) m is.older lm
 
-pub new_path : (all : List Place) (root : List Entry) (n : ℕ) (new_rows : List NewRow) (i : ℕ) (s : NewRow) → IsEnding all root n new_rows → slice_get new_rows i ≡ Some s
+pub new_path : (all : List NodePlace) (root : List Entry) (n : ℕ) (new_rows : List NewRow) (i : ℕ) (s : NewRow) → IsEnding all root n new_rows → slice_get new_rows i ≡ Some s
     → path_of (grown all n new_rows) (length all + i) ≡ path_of all n ++ new_row_path s
 new_path all root n new_rows i s is at =
     path_below (grown all n new_rows) (length all + i) n (place_in (Some n) s) (older_grown all n new_rows is.older is.known)
     (get_right all (map (place_in (Some n)) new_rows) (length all + i) i refl ∙ get_map (place_in (Some n)) new_rows i s at) refl
     ∙ ap (λ x. x ++ new_row_path s) (old_path all root n new_rows n is is.known)
 
-length_grown : (all : List Place) (n : ℕ) (new_rows : List NewRow) → length (grown all n new_rows) ≡ length all + length new_rows
+length_grown : (all : List NodePlace) (n : ℕ) (new_rows : List NewRow) → length (grown all n new_rows) ≡ length all + length new_rows
 length_grown all n new_rows = omega (arith, length-append all (map (place_in (Some n)) new_rows), length-map new_rows (place_in (Some n)))
 
-pub new_found : (all : List Place) (root : List Entry) (n : ℕ) (st : BranchState) (new_rows : List NewRow) → IsEnding all root n new_rows
+pub new_found : (all : List NodePlace) (root : List Entry) (n : ℕ) (st : BranchState) (new_rows : List NewRow) → IsEnding all root n new_rows
     → AreFound (grown all n new_rows) (ended_root all root n st new_rows) (path_of all n) (length all) new_rows
 new_found all root n st new_rows is i s at =
     let c = there all root n is.placed is.known in
@@ -160,7 +160,7 @@ new_found all root n st new_rows is i s at =
 
 -- ---- the tree afterwards
 
-pub placed_grown : (all : List Place) (root : List Entry) (n : ℕ) (st : BranchState) (new_rows : List NewRow) → IsEnding all root n new_rows → IsPlaced (grown all n new_rows) (ended_root all root n st new_rows)
+pub placed_grown : (all : List NodePlace) (root : List Entry) (n : ℕ) (st : BranchState) (new_rows : List NewRow) → IsEnding all root n new_rows → IsPlaced (grown all n new_rows) (ended_root all root n st new_rows)
 placed_grown all root n st new_rows is m lm = go (nat_lt m (length all)) refl
   where
     old : m < length all → number_of (find (ended_root all root n st new_rows) (path_of (grown all n new_rows) m)) ≡ Some m
@@ -177,11 +177,11 @@ placed_grown all root n st new_rows is m lm = go (nat_lt m (length all)) refl
     go true f = old (ltb-true m (length all) f)
     go false f = (let far : length all ≤ m = ltb-false m (length all) f in new (m - length all) (omega (arith, far)))
 
-listed_append : (all : List Place) (root xs ys : List Entry) → AreListed all root xs → AreListed all root ys → AreListed all root (xs ++ ys)
+listed_append : (all : List NodePlace) (root xs ys : List Entry) → AreListed all root xs → AreListed all root ys → AreListed all root (xs ++ ys)
 listed_append all root [] ys h k = k
 listed_append all root (x ∷ xs) ys h k = (h.0, listed_append all root xs ys h.1 k)
 
-pub listed_grown : (all : List Place) (root es : List Entry) (n : ℕ) (st : BranchState) (new_rows : List NewRow) → IsEnding all root n new_rows → AreListed all root es
+pub listed_grown : (all : List NodePlace) (root es : List Entry) (n : ℕ) (st : BranchState) (new_rows : List NewRow) → IsEnding all root n new_rows → AreListed all root es
     → AreListed (grown all n new_rows) (ended_root all root n st new_rows) (with_branch es (path_of all n) st (new_entries (length all) new_rows))
 listed_grown all root [] n st new_rows is l = tt
 listed_grown all root (e ∷ es) n st new_rows is l =
@@ -234,17 +234,17 @@ ranked_led : (rules : Rules) (p : List ℕ) (xs : List Entry) → AreRanked rule
 ranked_led rules p [] h = h
 ranked_led rules p (x ∷ xs) h = (h.0, ranked_led rules p xs h.1)
 
-pub ranked_grown : (rules : Rules) (all : List Place) (root es : List Entry) (n : ℕ) (st : BranchState) (b : List Entry) → IsPlaced all root → n < length all → AreListed all root es → AreRanked rules es
+pub ranked_grown : (rules : Rules) (all : List NodePlace) (root es : List Entry) (n : ℕ) (st : BranchState) (b : List Entry) → IsPlaced all root → n < length all → AreListed all root es → AreRanked rules es
     → AreRanked rules b → st.answer ≡ kept_of rules n st.state → AreRanked rules (with_branch es (path_of all n) st b)
 ranked_grown rules all root [] n st b placed lt l r rb a = tt
 ranked_grown rules all root (e ∷ es) n st b placed lt l r rb a = grind (arith, common_steps, ranked_append rules (changed e st b) (with_branch es (path_of all n) st b), ranked_grown rules all root es n st b placed lt l.1 r.1 rb a, changed, ranked_led, same_true)
 
-ending : (rules : Rules) (all : List Place) (root new b : List Entry) (t : Summary) (n : ℕ) (st : BranchState) (new_rows : List NewRow) (count : ℕ)
+ending : (rules : Rules) (all : List NodePlace) (root new b : List Entry) (t : Summary) (n : ℕ) (st : BranchState) (new_rows : List NewRow) (count : ℕ)
     → IsTree rules all root t → n < length all
     → AreRising new_rows → Changes root new (path_of all n) st b count → IsEnding all root n new_rows
 ending rules all root new b t n st new_rows count was lt rise h = record { older = was.older; placed = was.placed; known = lt; alone = h.alone; rise = rise }
 
-pub tree_ended : (rules : Rules) (all : List Place) (root new : List Entry) (t r : Summary) (n : ℕ) (st : BranchState) (new_rows : List NewRow) (first count : ℕ)
+pub tree_ended : (rules : Rules) (all : List NodePlace) (root new : List Entry) (t r : Summary) (n : ℕ) (st : BranchState) (new_rows : List NewRow) (first count : ℕ)
     → IsTree rules all root t
     → n < length all → AreRising new_rows → st.answer ≡ kept_of rules n st.state → first ≡ length all → first + length new_rows ≤ most_targets
     → Changes root new (path_of all n) st (new_entries first new_rows) count → Better t.kept st.answer r.kept → r.open_count + 1 ≡ t.open_count + count
@@ -253,18 +253,18 @@ tree_ended rules all root new t r n st new_rows first count was lt rise a at few
 
 -- ---- the rows afterwards
 
-rows_append : (all : List Place) (root : List Entry) (k : ℕ) (xs ys : List Place) → rows_from all root k (xs ++ ys) ≡ rows_from all root k xs ++ rows_from all root (k + length xs) ys
+rows_append : (all : List NodePlace) (root : List Entry) (k : ℕ) (xs ys : List NodePlace) → rows_from all root k (xs ++ ys) ≡ rows_from all root k xs ++ rows_from all root (k + length xs) ys
 rows_append all root k [] ys = let at : k ≡ k + 0 = omega arith in ap (λ x. rows_from all root x ys) at
 rows_append all root k (x ∷ xs) ys = grind (arith, rows_append all root (suc k) xs ys)
 
-rows_old : (all : List Place) (root new : List Entry) (n : ℕ) (new_rows : List NewRow) (k : ℕ) (ps : List Place) → IsEnding all root n new_rows → k + length ps ≤ length all
+rows_old : (all : List NodePlace) (root new : List Entry) (n : ℕ) (new_rows : List NewRow) (k : ℕ) (ps : List NodePlace) → IsEnding all root n new_rows → k + length ps ≤ length all
     → rows_from (grown all n new_rows) new k ps ≡ rows_from all new k ps
 rows_old all root new n new_rows k [] is le = refl
 rows_old all root new n new_rows k (p ∷ ps) is le =
     ap (λ x. row_at p (find new x) ∷ rows_from (grown all n new_rows) new (suc k) ps) (old_path all root n new_rows k is (omega (arith, le)))
     ∙ ap (λ r. row_at p (find new (path_of all k)) ∷ r) (rows_old all root new n new_rows (suc k) ps is (omega (arith, le)))
 
-pub rows_ended : (rules : Rules) (all : List Place) (root new : List Entry) (t : Summary) (n : ℕ) (st : BranchState) (new_rows : List NewRow) (first count : ℕ)
+pub rows_ended : (rules : Rules) (all : List NodePlace) (root new : List Entry) (t : Summary) (n : ℕ) (st : BranchState) (new_rows : List NewRow) (first count : ℕ)
     → IsTree rules all root t → n < length all
     → AreRising new_rows → first ≡ length all → Changes root new (path_of all n) st (new_entries first new_rows) count
     → rows_of (grown all n new_rows) new ≡ with_state (rows_of all root) n (plain_state st.state) ++ map (waiting_row (Some n)) new_rows

@@ -1,6 +1,6 @@
 -- The groups under one row, by the rows' numbers.
 use Rattle.fork_tree.proofs.Common.{◌≡◌, ℕ, zero, suc, ◌+◌, ◌<◌, ◌≤◌, Bool, true, false, List, [], ◌∷◌, ◌++◌, length, Option, Some, None, slice_get, refl, ap, sym, subst, ◌∙◌, arith, append_assoc, length-append, if◌then◌else◌, append-nil, Row}
-use Rattle.fork_tree.proofs.Common.{is_ended, Place, has_ended, Cell, Entry, same, find, above, path_of, row_at, rows_of, number_of, IsPlaced, AreOlder, open_of, AreListed, lies_below, open_below, stripped, put_under, under, IsKnown, IsShape}
+use Rattle.fork_tree.proofs.Common.{is_ended, NodePlace, has_ended, Cell, Entry, same, find, above, path_of, row_at, rows_of, number_of, IsPlaced, AreOlder, open_of, AreListed, lies_below, open_below, stripped, put_under, under, IsKnown, IsShape}
 use Rattle.fork_tree.proofs.Common.{slice_get_within, there_at, common_steps}
 use Rattle.fork_tree.proofs.Traces.{path_below}
 use Rattle.fork_tree.proofs.Placed.{same_true, get_row, ended_plain}
@@ -10,21 +10,21 @@ use Rattle.fork_tree.proofs.Below.{count_below}
 
 -- ---- the path to the groups under a row, or at the top
 
-abbrev pub path_above : List Place → Option ℕ → List ℕ
+abbrev pub path_above : List NodePlace → Option ℕ → List ℕ
 path_above all p = above p (path_of all)
 
 -- what stands under the row
-abbrev pub level_of : List Place → List Entry → Option ℕ → List Entry
+abbrev pub level_of : List NodePlace → List Entry → Option ℕ → List Entry
 level_of all root p = under (path_above all p) root
 
-pub path_split : (all : List Place) (k : ℕ) (s : Place) → AreOlder all → slice_get all k ≡ Some s → path_of all k ≡ path_above all s.parent ++ s.group ∷ s.place ∷ []
+pub path_split : (all : List NodePlace) (k : ℕ) (s : NodePlace) → AreOlder all → slice_get all k ≡ Some s → path_of all k ≡ path_above all s.parent ++ s.group ∷ s.place ∷ []
 path_split all k s older is = grind (arith, path_below)
 
-pub parent_known : (all : List Place) (k : ℕ) (s : Place) → AreOlder all → slice_get all k ≡ Some s → IsKnown (length all) s.parent
+pub parent_known : (all : List NodePlace) (k : ℕ) (s : NodePlace) → AreOlder all → slice_get all k ≡ Some s → IsKnown (length all) s.parent
 parent_known all k s older is = grind (arith, slice_get_within)
 
 -- two rows have two paths, and neither has that of the top
-same_above : (all : List Place) (root : List Entry) (a b : Option ℕ) → IsPlaced all root → IsKnown (length all) a → IsKnown (length all) b → path_above all a ≡ path_above all b → a ≡ b
+same_above : (all : List NodePlace) (root : List Entry) (a b : Option ℕ) → IsPlaced all root → IsKnown (length all) a → IsKnown (length all) b → path_above all a ≡ path_above all b → a ≡ b
 same_above all root None None placed ka kb e = refl
 same_above all root None (Some m) placed ka kb e = let q = there_at all m kb in absurd (omega (arith, long all m q.0 q.1, ap length e))
 same_above all root (Some u) None placed ka kb e = let q = there_at all u ka in absurd (omega (arith, long all u q.0 q.1, ap length e))
@@ -42,15 +42,15 @@ both_parts (x ∷ a) b (y ∷ c) d e l =
 
 -- ---- a branch there, and its row
 
-pub found_at : (all : List Place) (root : List Entry) (k : ℕ) (s : Place) → AreOlder all → slice_get all k ≡ Some s
+pub found_at : (all : List NodePlace) (root : List Entry) (k : ℕ) (s : NodePlace) → AreOlder all → slice_get all k ≡ Some s
     → find (level_of all root s.parent) (s.group ∷ s.place ∷ []) ≡ find root (path_of all k)
 found_at all root k s older is = find_under (path_above all s.parent) root (s.group ∷ s.place ∷ []) ∙ ap (find root) (sym (path_split all k s older is))
 
-pub numbered : (all : List Place) (root : List Entry) (k : ℕ) (s : Place) → AreOlder all → IsPlaced all root → slice_get all k ≡ Some s
+pub numbered : (all : List NodePlace) (root : List Entry) (k : ℕ) (s : NodePlace) → AreOlder all → IsPlaced all root → slice_get all k ≡ Some s
     → number_of (find (level_of all root s.parent) (s.group ∷ s.place ∷ [])) ≡ Some k
 numbered all root k s older placed is = ap number_of (found_at all root k s older is) ∙ placed k (slice_get_within all k s is)
 
-listed_path : (all : List Place) (root es : List Entry) (path : List ℕ) (c : Cell) → AreListed all root es → find es path ≡ Some c → (c.number < length all) × (path_of all c.number ≡ path)
+listed_path : (all : List NodePlace) (root es : List Entry) (path : List ℕ) (c : Cell) → AreListed all root es → find es path ≡ Some c → (c.number < length all) × (path_of all c.number ≡ path)
 listed_path all root [] path c l h = absurd cc
 listed_path all root (e ∷ es) path c l h =
     elim (same e.path path) as (λ t. same e.path path ≡ t → (if t then Some e.cell else find es path) ≡ Some c → (c.number < length all) × (path_of all c.number ≡ path)) [
@@ -61,11 +61,11 @@ listed_path all root (e ∷ es) path c l h =
     ] refl h
 
 -- the branch of this cell stands under this row
-pub record StandsAt (all : List Place) (root : List Entry) (p : Option ℕ) (group place : ℕ) (c : Cell) : Type 0 where
+pub record StandsAt (all : List NodePlace) (root : List Entry) (p : Option ℕ) (group place : ℕ) (c : Cell) : Type 0 where
   pub there : slice_get all c.number ≡ Some (record { parent = p; group = group; place = place })
   pub found : find root (path_of all c.number) ≡ Some c
 
-pub stands_at : (all : List Place) (root : List Entry) (p : Option ℕ) (group place : ℕ) (c : Cell) → IsShape all root → IsKnown (length all) p
+pub stands_at : (all : List NodePlace) (root : List Entry) (p : Option ℕ) (group place : ℕ) (c : Cell) → IsShape all root → IsKnown (length all) p
     → find (level_of all root p) (group ∷ place ∷ []) ≡ Some c → StandsAt all root p group place c
 stands_at all root p group place c shape known h = at (there_at all c.number path.0)
   where
@@ -75,7 +75,7 @@ stands_at all root p group place c shape known h = at (there_at all c.number pat
     path : (c.number < length all) × (path_of all c.number ≡ path_above all p ++ group ∷ place ∷ [])
     path = listed_path all root root (path_above all p ++ group ∷ place ∷ []) c shape.listed found
 
-    at : (s : Place) × (slice_get all c.number ≡ Some s) → StandsAt all root p group place c
+    at : (s : NodePlace) × (slice_get all c.number ≡ Some s) → StandsAt all root p group place c
     at s =
         let whole : path_above all s.0.parent ++ s.0.group ∷ s.0.place ∷ [] ≡ path_above all p ++ group ∷ place ∷ [] = sym (path_split all c.number s.0 shape.older s.1) ∙ path.1 in
         let parts = both_parts (path_above all s.0.parent) (s.0.group ∷ s.0.place ∷ []) (path_above all p) (group ∷ place ∷ []) whole
@@ -97,7 +97,7 @@ under_fewer : (p : List ℕ) (rows : List Entry) → open_of (under p rows) ≤ 
 under_fewer p [] = omega arith
 under_fewer p (e ∷ es) = grind (arith, under_fewer p es)
 
-pub none_in_group : (all : List Place) (root : List Entry) (k : ℕ) (s : Place) → IsShape all root → slice_get all k ≡ Some s
+pub none_in_group : (all : List NodePlace) (root : List Entry) (k : ℕ) (s : NodePlace) → IsShape all root → slice_get all k ≡ Some s
     → open_of (under (s.group ∷ []) (level_of all root s.parent)) ≡ 0 → open_below (rows_of all root) k ≡ 0
 none_in_group all root k s shape is none =
     let level = level_of all root s.parent in
@@ -107,7 +107,7 @@ none_in_group all root k s shape is none =
 -- ---- a group in which something is
 
 -- a branch below this path that has not ended
-record IsOpenIn (all : List Place) (root : List Entry) (path : List ℕ) : Type 0 where
+record IsOpenIn (all : List NodePlace) (root : List Entry) (path : List ℕ) : Type 0 where
   pub number : ℕ
   pub known : number < length all
   pub rest : List ℕ
@@ -116,7 +116,7 @@ record IsOpenIn (all : List Place) (root : List Entry) (path : List ℕ) : Type 
   pub found : find root (path_of all number) ≡ Some cell
   pub unended : has_ended cell.standing.state ≡ false
 
-some_open : (all : List Place) (root es : List Entry) (path : List ℕ) → AreListed all root es → 0 < open_of (under path es) → IsOpenIn all root path
+some_open : (all : List NodePlace) (root es : List Entry) (path : List ℕ) → AreListed all root es → 0 < open_of (under path es) → IsOpenIn all root path
 some_open all root [] path l h = absurd (omega (arith, h))
 some_open all root (e ∷ es) path l h = go (stripped path e.path) refl h (λ t. some_open all root es path l.1 t)
   where
@@ -131,26 +131,26 @@ some_open all root (e ∷ es) path l h = go (stripped path e.path) refl h (λ t.
     go None f h again = again h
     go (Some q) f h again = own q f (has_ended e.cell.standing.state) refl h again
 
-even_above : (all : List Place) (o : Option ℕ) → IsEven (length (path_above all o))
+even_above : (all : List NodePlace) (o : Option ℕ) → IsEven (length (path_above all o))
 even_above all None = (0, refl)
 even_above all (Some m) = even_to all (suc m) m
 
 -- a row under this one in this group, at row k or above it
-record IsAbove (all : List Place) (p : Option ℕ) (group k : ℕ) : Type 0 where
+record IsAbove (all : List NodePlace) (p : Option ℕ) (group k : ℕ) : Type 0 where
   pub number : ℕ
-  pub spot : Place
+  pub spot : NodePlace
   pub there : slice_get all number ≡ Some spot
   pub parent : spot.parent ≡ p
   pub group_is : spot.group ≡ group
   pub on : GoesOn all number k
 
-row_above : (all : List Place) (root : List Entry) (p : Option ℕ) (group steps k : ℕ) (q : List ℕ) → IsShape all root → IsKnown (length all) p → k < length all
+row_above : (all : List NodePlace) (root : List Entry) (p : Option ℕ) (group steps k : ℕ) (q : List ℕ) → IsShape all root → IsKnown (length all) p → k < length all
     → k < steps → path_of all k ≡ path_above all p ++ group ∷ q → IsAbove all p group k
 row_above all root p group zero k q shape known lk less e = absurd (omega (arith, less))
 row_above all root p group (suc steps) k q shape known lk less e =
     at (there_at all k lk) (λ u x lu fewer f. row_above all root p group steps u x shape known lu fewer f)
   where
-    at : (s : Place) × (slice_get all k ≡ Some s) → ((u : ℕ) (x : List ℕ) → u < length all → u < steps → path_of all u ≡ path_above all p ++ group ∷ x → IsAbove all p group u)
+    at : (s : NodePlace) × (slice_get all k ≡ Some s) → ((u : ℕ) (x : List ℕ) → u < length all → u < steps → path_of all u ≡ path_above all p ++ group ∷ x → IsAbove all p group u)
         → IsAbove all p group k
     at s again = by q whole sizes e s.0.parent refl
       where
@@ -206,9 +206,9 @@ row_above all root p group (suc steps) k q shape known lk less e =
         by (x ∷ y ∷ z) w n f o g = up (x ∷ y ∷ z) (omega arith) n f o g
 
 -- a row under this one in this group that has not ended, or below which one has not
-pub record IsOpenGroup (all : List Place) (root : List Entry) (p : Option ℕ) (group : ℕ) : Type 0 where
+pub record IsOpenGroup (all : List NodePlace) (root : List Entry) (p : Option ℕ) (group : ℕ) : Type 0 where
   pub number : ℕ
-  pub spot : Place
+  pub spot : NodePlace
   pub there : slice_get all number ≡ Some spot
   pub parent : spot.parent ≡ p
   pub group_is : spot.group ≡ group
@@ -218,7 +218,7 @@ pub record IsOpenGroup (all : List Place) (root : List Entry) (p : Option ℕ) (
   pub below : lies_below (rows_of all root) number open_row ≡ true
   pub unended : is_ended row.state ≡ false
 
-pub some_in_group : (all : List Place) (root : List Entry) (p : Option ℕ) (group : ℕ) → IsShape all root → IsKnown (length all) p
+pub some_in_group : (all : List NodePlace) (root : List Entry) (p : Option ℕ) (group : ℕ) → IsShape all root → IsKnown (length all) p
     → 0 < open_of (under (group ∷ []) (level_of all root p)) → IsOpenGroup all root p group
 some_in_group all root p group shape known some =
     record {
@@ -241,7 +241,7 @@ some_in_group all root p group shape known some =
     m : IsAbove all p group o.number
     m = row_above all root p group (suc o.number) o.number o.rest shape known o.known (omega arith) (o.on ∙ append_assoc (path_above all p) (group ∷ []) o.rest)
 
-    spot : (s : Place) × (slice_get all o.number ≡ Some s)
+    spot : (s : NodePlace) × (slice_get all o.number ≡ Some s)
     spot = there_at all o.number o.known
 
     unended : is_ended (row_at spot.0 (find root (path_of all (0 + o.number)))).state ≡ false

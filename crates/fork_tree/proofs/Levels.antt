@@ -1,6 +1,6 @@
 -- What the search finds under a row, or at the top, says which of the rows there may start.
 use Rattle.fork_tree.proofs.Common.{◌≡◌, ℕ, zero, suc, ◌+◌, ◌-◌, ◌<◌, ◌≤◌, inl, inr, Bool, true, false, List, [], ◌∷◌, length, Option, Some, None, slice_get, refl, ap, sym, subst, ◌∙◌, arith, ltb, ltb-true, ltb-false, nat_eq, nat_lt, option_eq}
-use Rattle.fork_tree.proofs.Common.{append-nil, Row, is_idle, is_ended, is_row, parent_ended, and_left, and_right, MayStart, may_start_facts, may_start_of, option_same, Place, has_ended, Cell, Entry, find, state_in, path_of, row_at, rows_of}
+use Rattle.fork_tree.proofs.Common.{append-nil, Row, is_idle, is_ended, is_row, parent_ended, and_left, and_right, MayStart, may_start_facts, may_start_of, option_same, NodePlace, has_ended, Cell, Entry, find, state_in, path_of, row_at, rows_of}
 use Rattle.fork_tree.proofs.Common.{number_of, under, open_of, IsReady, IsOnWay, IsKnown, IsShape, IsStarted, waits_in, FindsFirst, FindsHere, NoneUnder, FindsOnWay, slice_get_within, one_there, common_steps}
 use Rattle.std.specs.Prelude.{IfSome}
 use Rattle.fork_model.proofs.laws.WaitingLemmas.{is_earlier}
@@ -17,16 +17,16 @@ use Rattle.fork_tree.proofs.Grouped.{level_of, found_at, numbered, StandsAt, sta
 -- ---- where none may start
 
 -- a row of a group in which nothing is open
-over_waits : (all : List Place) (root : List Entry) (p : Option ℕ) (k : ℕ) (row : Row) → IsShape all root → slice_get (rows_of all root) k ≡ Some row → row.parent ≡ p
+over_waits : (all : List NodePlace) (root : List Entry) (p : Option ℕ) (k : ℕ) (row : Row) → IsShape all root → slice_get (rows_of all root) k ≡ Some row → row.parent ≡ p
     → open_of (under (row.group ∷ []) (level_of all root p)) ≡ 0 → is_idle row.state ≡ true → ⊥
 over_waits all root p k row shape is up none waits = grind (arith, common_steps, place_got all root (rows_of all root) k row refl is, level_of, idle_open, older_rows, none_in_group)
 
-none_over : (all : List Place) (root : List Entry) (p : Option ℕ) → IsShape all root → ((j : ℕ) → open_of (under (j ∷ []) (level_of all root p)) ≡ 0)
+none_over : (all : List NodePlace) (root : List Entry) (p : Option ℕ) → IsShape all root → ((j : ℕ) → open_of (under (j ∷ []) (level_of all root p)) ≡ 0)
     → NoneUnder (rows_of all root) p
 none_over all root p shape over k row is up may =
     over_waits all root p k row shape is up (over row.group) (may_start_facts (rows_of all root) row may).idle
 
-record IsBusy (all : List Place) (root : List Entry) (p : Option ℕ) (group place : ℕ) : Type 0 where
+record IsBusy (all : List NodePlace) (root : List Entry) (p : Option ℕ) (group place : ℕ) : Type 0 where
   pub number : ℕ
   pub row : Row
   pub there : slice_get (rows_of all root) number ≡ Some row
@@ -34,7 +34,7 @@ record IsBusy (all : List Place) (root : List Entry) (p : Option ℕ) (group pla
   pub group_is : row.group ≡ group
   pub started : is_idle row.state ≡ false
 
-busy_at : (all : List Place) (root : List Entry) (p : Option ℕ) (group place : ℕ) → IsShape all root → IsKnown (length all) p
+busy_at : (all : List NodePlace) (root : List Entry) (p : Option ℕ) (group place : ℕ) → IsShape all root → IsKnown (length all) p
     → IsStarted (find (under (group ∷ []) (level_of all root p)) (place ∷ [])) → IsBusy all root p group place
 busy_at all root p group place shape known started = go (find (under (group ∷ []) (level_of all root p)) (place ∷ [])) refl started
   where
@@ -42,7 +42,7 @@ busy_at all root p group place shape known started = go (find (under (group ∷ 
     go None e h = absurd h
     go (Some c) e h =
         let s : StandsAt all root p group place c = stands_at all root p group place c shape known (sym (find_under (group ∷ []) (level_of all root p) (place ∷ [])) ∙ e) in
-        let spot : Place = record { parent = p; group = group; place = place } in
+        let spot : NodePlace = record { parent = p; group = group; place = place } in
         let at : 0 + c.number ≡ c.number = omega arith in
         let cell : find root (path_of all (0 + c.number)) ≡ Some c = ap (λ k. find root (path_of all k)) at ∙ s.found in
         record {
@@ -54,7 +54,7 @@ busy_at all root p group place shape known started = go (find (under (group ∷ 
           started = h;
         }
 
-none_busy : (all : List Place) (root : List Entry) (p : Option ℕ) → IsShape all root → IsKnown (length all) p → FindsFirst (level_of all root p) None → NoneUnder (rows_of all root) p
+none_busy : (all : List NodePlace) (root : List Entry) (p : Option ℕ) → IsShape all root → IsKnown (length all) p → FindsFirst (level_of all root p) None → NoneUnder (rows_of all root) p
 none_busy all root p shape known f k row is up e = go (may_start_facts rows row e) (ltb row.group f.group) (ltb f.group row.group) refl refl
   where
     rows : List Row
@@ -84,11 +84,11 @@ none_busy all root p shape known f k row is up e = go (may_start_facts rows row 
 
 -- ---- where a group waits
 
-idle_at : (s : Place) (o : Option Cell) → waits_in o ≡ true → is_idle (row_at s o).state ≡ true
+idle_at : (s : NodePlace) (o : Option Cell) → waits_in o ≡ true → is_idle (row_at s o).state ≡ true
 idle_at s o e = grind arith
 
 -- the branch at each place is that of its number
-new_row_at : (all : List Place) (root : List Entry) (p : Option ℕ) (first count group i : ℕ) → IsShape all root → IsKnown (length all) p
+new_row_at : (all : List NodePlace) (root : List Entry) (p : Option ℕ) (first count group i : ℕ) → IsShape all root → IsKnown (length all) p
     → AllWait (under (group ∷ []) (level_of all root p)) first count → i < count → slice_get all (first + i) ≡ Some (record { parent = p; group = group; place = i })
 new_row_at all root p first count group zero shape known f lt = go (find (under (group ∷ []) (level_of all root p)) (0 ∷ [])) refl f.first_there
   where
@@ -115,7 +115,7 @@ new_row_at all root p first count group (suc i) shape known f lt =
         let number : last.0 ≡ first + i = cc in
         ap (slice_get all) (omega (arith, number, last.1)) ∙ s.there
 
-group_ready : (all : List Place) (root : List Entry) (p : Option ℕ) (first count : ℕ) → IsShape all root → IsKnown (length all) p → parent_ended (rows_of all root) p ≡ true
+group_ready : (all : List NodePlace) (root : List Entry) (p : Option ℕ) (first count : ℕ) → IsShape all root → IsKnown (length all) p → parent_ended (rows_of all root) p ≡ true
     → FindsFirst (level_of all root p) (Some (first, count)) → IsReady (rows_of all root) first count
 group_ready all root p first count shape known ended f = record {
   some = f.found.some;
@@ -129,7 +129,7 @@ group_ready all root p first count shape known ended f = record {
   whole = λ j k row other low high is there up same. (let s = stands j row low high is in within k other there (up ∙ s.0) (same ∙ s.1));
 }
   where
-    spot : ℕ → Place
+    spot : ℕ → NodePlace
     spot i = record { parent = p; group = f.group; place = i }
 
     older : AreOlderRows (rows_of all root)
@@ -146,7 +146,7 @@ group_ready all root p first count shape known ended f = record {
         let a : IsPlaceOf all k row = place_got all root (rows_of all root) k row refl is in
         let there : slice_get all k ≡ Some (spot (k - first)) = ap (slice_get all) (omega (arith, low)) ∙ at (k - first) (omega (arith, low, high)) in
         let one : a.spot ≡ spot (k - first) = one_there all k a.spot (spot (k - first)) a.there there in
-        (a.parent ∙ ap (λ (s : Place). s.parent) one, a.group ∙ ap (λ (s : Place). s.group) one)
+        (a.parent ∙ ap (λ (s : NodePlace). s.parent) one, a.group ∙ ap (λ (s : NodePlace). s.group) one)
 
     within : (m : ℕ) (member : Row) → slice_get (rows_of all root) m ≡ Some member → member.parent ≡ p → member.group ≡ f.group → (first ≤ m) × (m < first + count)
     within m member is up same =
@@ -202,7 +202,7 @@ group_ready all root p first count shape known ended f = record {
 
 -- ---- what is found in one level
 
-pub level_finds : (all : List Place) (root level : List Entry) (p : Option ℕ) (r : Option (ℕ × ℕ)) → IsShape all root → IsKnown (length all) p → level ≡ level_of all root p
+pub level_finds : (all : List NodePlace) (root level : List Entry) (p : Option ℕ) (r : Option (ℕ × ℕ)) → IsShape all root → IsKnown (length all) p → level ≡ level_of all root p
     → (IfSome r (λ g. parent_ended (rows_of all root) p ≡ true)) → FindsHere level r → FindsUnder (rows_of all root) p r
 level_finds all root level p (Some g) shape known is ended found =
     group_ready all root p g.0 g.1 shape known ended (subst (λ x. FindsFirst x (Some g)) is found)
@@ -210,17 +210,17 @@ level_finds all root level p None shape known is ended found =
     elim (subst (λ x. FindsHere x None) is found) [ inl f ↦ none_busy all root p shape known f | inr over ↦ none_over all root p shape over ]
 
 -- at the top
-pub top_finds : (all : List Place) (root : List Entry) (r : Option (ℕ × ℕ)) → IsShape all root → FindsHere root r → FindsOnWay (rows_of all root) None r
+pub top_finds : (all : List NodePlace) (root : List Entry) (r : Option (ℕ × ℕ)) → IsShape all root → FindsHere root r → FindsOnWay (rows_of all root) None r
 top_finds all root (Some g) shape found = level_finds all root root None (Some g) shape tt (sym (under_none root)) refl found
 top_finds all root None shape found = λ parent way.
     subst (NoneUnder (rows_of all root)) (sym way) (level_finds all root root None None shape tt (sym (under_none root)) tt found)
 
-row_over : (all : List Place) (root node : List Entry) (n : ℕ) (s : Place) → slice_get all n ≡ Some s → node ≡ under (path_of all n) root → has_ended (state_in (find node [])) ≡ true
+row_over : (all : List NodePlace) (root node : List Entry) (n : ℕ) (s : NodePlace) → slice_get all n ≡ Some s → node ≡ under (path_of all n) root → has_ended (state_in (find node [])) ≡ true
     → is_row is_ended (slice_get (rows_of all root) n) ≡ true
 row_over all root node n s is same ended = grind (arith, common_steps, find_under (path_of all n) root [], append-nil (path_of all n), get_row all root 0 n all s is, ended_plain)
 
 -- on the way down to a row, where on that to the row above it this was found
-pub way_finds : (all : List Place) (root node : List Entry) (n : ℕ) (s : Place) (found r : Option (ℕ × ℕ)) → IsShape all root → slice_get all n ≡ Some s → node ≡ under (path_of all n) root
+pub way_finds : (all : List NodePlace) (root node : List Entry) (n : ℕ) (s : NodePlace) (found r : Option (ℕ × ℕ)) → IsShape all root → slice_get all n ≡ Some s → node ≡ under (path_of all n) root
     → FindsOnWay (rows_of all root) s.parent found → OrBelow found node r → FindsOnWay (rows_of all root) (Some n) r
 way_finds all root node n s (Some g) r shape is same up or = subst (FindsOnWay (rows_of all root) (Some n)) (sym or) up
 way_finds all root node n s None (Some g) shape is same up or = grind (arith, common_steps, level_finds all root node (Some n) (Some g) shape (slice_get_within all n s is) same (row_over all root node n s is same or.1) or.0, slice_get_within, row_over)

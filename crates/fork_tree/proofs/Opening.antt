@@ -1,5 +1,5 @@
 -- Rows that wait, each at its place, are a tree.
-use Rattle.fork_tree.proofs.Common.{◌≡◌, ℕ, zero, suc, ◌+◌, ◌<◌, ◌≤◌, ◌⊎◌, inl, inr, List, [], ◌∷◌, length, map, Option, Some, None, slice_get, refl, ap, sym, subst, ◌∙◌, arith, Rules, led, Entry, ◌++◌, most_targets, NewRow, Place, RankedAnswer, Summary}
+use Rattle.fork_tree.proofs.Common.{◌≡◌, ℕ, zero, suc, ◌+◌, ◌<◌, ◌≤◌, ◌⊎◌, inl, inr, List, [], ◌∷◌, length, map, Option, Some, None, slice_get, refl, ap, sym, subst, ◌∙◌, arith, Rules, led, Entry, ◌++◌, most_targets, NewRow, NodePlace, RankedAnswer, Summary}
 use Rattle.fork_tree.proofs.Common.{Cell, find, HasKept, IsKept, open_of, path_of, rows_from, rows_of, number_of, AreOlder, new_rows_from, idle, new_entries, waiting_row, place_in, AreListed, AreRanked, IsTree, there_at, get_map, length-map, map-id}
 use Rattle.fork_tree.proofs.Common.{slice_get_within, common_steps}
 use Rattle.fork_tree.proofs.Traces.{path_top}
@@ -57,29 +57,29 @@ find_new_row (x ∷ new_rows) n (suc i) s rise is = grind (arith, follows_at, fi
 
 -- ---- what new rows are where they are found
 
-pub record IsFound (all : List Place) (root : List Entry) (p : List ℕ) (n : ℕ) (s : NewRow) : Type 0 where
+pub record IsFound (all : List NodePlace) (root : List Entry) (p : List ℕ) (n : ℕ) (s : NewRow) : Type 0 where
   pub known : n < length all
   pub path : path_of all n ≡ p ++ new_row_path s
   pub found : find root (path_of all n) ≡ Some (new_row_cell n s)
 
 -- new rows numbered from k on stand below this path
-abbrev pub AreFound : List Place → List Entry → List ℕ → ℕ → List NewRow → Type 0
+abbrev pub AreFound : List NodePlace → List Entry → List ℕ → ℕ → List NewRow → Type 0
 AreFound all root p k new_rows = (i : ℕ) (s : NewRow) → slice_get new_rows i ≡ Some s → IsFound all root p (k + i) s
 
-first_found : (all : List Place) (root : List Entry) (p : List ℕ) (k : ℕ) (s : NewRow) (more : List NewRow) → AreFound all root p k (s ∷ more)
+first_found : (all : List NodePlace) (root : List Entry) (p : List ℕ) (k : ℕ) (s : NewRow) (more : List NewRow) → AreFound all root p k (s ∷ more)
     → IsFound all root p k s
 first_found all root p k s more found = let at : k + 0 ≡ k = omega arith in subst (λ (x : ℕ). IsFound all root p x s) at (found 0 s refl)
 
-more_found : (all : List Place) (root : List Entry) (p : List ℕ) (k : ℕ) (s : NewRow) (more : List NewRow) → AreFound all root p k (s ∷ more)
+more_found : (all : List NodePlace) (root : List Entry) (p : List ℕ) (k : ℕ) (s : NewRow) (more : List NewRow) → AreFound all root p k (s ∷ more)
     → AreFound all root p (suc k) more
 more_found all root p k s more found i t is = let at : k + suc i ≡ suc k + i = omega arith in subst (λ (x : ℕ). IsFound all root p x t) at (found (suc i) t is)
 
-pub rows_found : (all : List Place) (root : List Entry) (p : List ℕ) (parent : Option ℕ) (k : ℕ) (new_rows : List NewRow) → AreFound all root p k new_rows
+pub rows_found : (all : List NodePlace) (root : List Entry) (p : List ℕ) (parent : Option ℕ) (k : ℕ) (new_rows : List NewRow) → AreFound all root p k new_rows
     → rows_from all root k (map (place_in parent) new_rows) ≡ map (waiting_row parent) new_rows
 rows_found all root p parent k [] found = refl
 rows_found all root p parent k (s ∷ more) found = grind (arith, common_steps, first_found all root p k s more found, rows_found all root p parent (suc k) more (more_found all root p k s more found), more_found)
 
-pub listed_found : (all : List Place) (root : List Entry) (p : List ℕ) (k : ℕ) (new_rows : List NewRow) → AreFound all root p k new_rows
+pub listed_found : (all : List NodePlace) (root : List Entry) (p : List ℕ) (k : ℕ) (new_rows : List NewRow) → AreFound all root p k new_rows
     → AreListed all root (map (led p) (new_entries k new_rows))
 listed_found all root p k [] found = tt
 listed_found all root p k (s ∷ more) found = grind (arith, common_steps, first_found all root p k s more found, listed_found all root p (suc k) more (more_found all root p k s more found), more_found)
@@ -105,9 +105,9 @@ new_rows_ranked rules n (s ∷ new_rows) = (refl, new_rows_ranked rules (suc n) 
 older_top : (new_rows : List NewRow) → AreOlder (map (place_in None) new_rows)
 older_top new_rows n p m is up = none new_rows n p m is up
   where
-    none : (new_rows : List NewRow) (n : ℕ) (p : Place) (m : ℕ) → slice_get (map (place_in None) new_rows) n ≡ Some p → p.parent ≡ Some m → m < n
+    none : (new_rows : List NewRow) (n : ℕ) (p : NodePlace) (m : ℕ) → slice_get (map (place_in None) new_rows) n ≡ Some p → p.parent ≡ Some m → m < n
     none [] n p m is up = absurd cc
-    none (s ∷ new_rows) zero p m is up = let at : place_in None s ≡ p = cc in let bad : None ≡ Some m = ap (λ (x : Place). x.parent) at ∙ up in absurd cc
+    none (s ∷ new_rows) zero p m is up = let at : place_in None s ≡ p = cc in let bad : None ≡ Some m = ap (λ (x : NodePlace). x.parent) at ∙ up in absurd cc
     none (s ∷ new_rows) (suc n) p m is up = omega (arith, none new_rows n p m is up)
 
 top_found : (new_rows : List NewRow) → AreRising new_rows → AreFound (map (place_in None) new_rows) (new_entries 0 new_rows) [] 0 new_rows

@@ -1,6 +1,6 @@
 -- What is kept of the tree is the best of its rows by number.
 use Rattle.fork_tree.proofs.Common.{◌≡◌, ℕ, ◌+◌, true, false, List, [], ◌∷◌, slice_get, Option, Some, None, refl, ap, sym, subst, ◌∙◌, arith, inl, inr, if◌then◌else◌, option_map, Row, Rules, stored_of, Score, RanksBefore, rank_of, HasScore, score_of}
-use Rattle.fork_tree.proofs.Common.{stored_at, RankedAnswer, State, Ended, Stored, Place, has_ended, plain_state, Cell, Entry, same, find, path_of, row_at, rows_of, HasKept, IsKept, best_of, AreListed, AreRanked, kept_of, IsBest, score_of_ref, there_at}
+use Rattle.fork_tree.proofs.Common.{stored_at, RankedAnswer, State, Ended, Stored, NodePlace, has_ended, plain_state, Cell, Entry, same, find, path_of, row_at, rows_of, HasKept, IsKept, best_of, AreListed, AreRanked, kept_of, IsBest, score_of_ref, there_at}
 use Rattle.fork_tree.proofs.Common.{common_steps, rules}
 use Rattle.fork_model.specs.Rank.{Before}
 use Rattle.fork_tree.proofs.Placed.{IsRowAt, row_got, get_row}
@@ -37,10 +37,10 @@ abbrev pub ScoreKept : Rules → List Entry → Score → Type 0
 ScoreKept rules root score = (k : RankedAnswer) × HasKept root k × (k.rank ≡ rank_of rules score)
 
 -- a row's stored answer is that of its node
-score_kept : (rules : Rules) (all : List Place) (root : List Entry) (m : ℕ) (score : Score) → AreRanked rules root → HasScore (rows_of all root) m score → ScoreKept rules root score
+score_kept : (rules : Rules) (all : List NodePlace) (root : List Entry) (m : ℕ) (score : Score) → AreRanked rules root → HasScore (rows_of all root) m score → ScoreKept rules root score
 score_kept rules all root m score ranked h = go (slice_get (rows_of all root) m) refl h
   where
-    cell : (p : Place) (path : List ℕ) (o : Option Cell) → find root path ≡ o → option_map score_of (stored_of (row_at p o).state) ≡ Some score → ScoreKept rules root score
+    cell : (p : NodePlace) (path : List ℕ) (o : Option Cell) → find root path ≡ o → option_map score_of (stored_of (row_at p o).state) ≡ Some score → ScoreKept rules root score
     cell p path None e h = absurd cc
     cell p path (Some c) e h =
         let found = stored_state rules c.number c.standing.state score h in
@@ -60,7 +60,7 @@ pub state_stored : (rules : Rules) (n : ℕ) (s : State) (k : RankedAnswer) → 
     → (k.best.no ≡ n) × (option_map score_of (stored_of (plain_state s)) ≡ Some (score_of_ref k.best)) × (k.rank ≡ rank_of rules (score_of_ref k.best))
 state_stored rules n s k h = grind arith
 
-pub kept_score : (rules : Rules) (all : List Place) (root es : List Entry) (k : RankedAnswer) → AreListed all root es → AreRanked rules es → HasKept es k → KeptScore rules (rows_of all root) k
+pub kept_score : (rules : Rules) (all : List NodePlace) (root es : List Entry) (k : RankedAnswer) → AreListed all root es → AreRanked rules es → HasKept es k → KeptScore rules (rows_of all root) k
 kept_score rules all root [] k l r h = absurd h
 kept_score rules all root (e ∷ es) k l r h =
     elim h [
@@ -69,7 +69,7 @@ kept_score rules all root (e ∷ es) k l r h =
     ]
   where
     own : (k.best.no ≡ e.cell.number) × (option_map score_of (stored_of (plain_state e.cell.standing.state)) ≡ Some (score_of_ref k.best)) × (k.rank ≡ rank_of rules (score_of_ref k.best))
-        → (p : Place) × (slice_get all e.cell.number ≡ Some p) → KeptScore rules (rows_of all root) k
+        → (p : NodePlace) × (slice_get all e.cell.number ≡ Some p) → KeptScore rules (rows_of all root) k
     own s p =
         let row : slice_get (rows_of all root) e.cell.number ≡ Some (row_at p.0 (find root (path_of all (0 + e.cell.number)))) = get_row all root 0 e.cell.number all p.0 p.1 in
         let at : 0 + e.cell.number ≡ e.cell.number = omega arith in (
@@ -83,6 +83,6 @@ pub before_ranks : (rules : Rules) (a b : Score) → Before rules a b → RanksB
 unfolding Before
 before_ranks rules a b h = h
 
-pub kept_is_best : (rules : Rules) (rows : List Row) (all : List Place) (root : List Entry) (kept : Option RankedAnswer) → rows_of all root ≡ rows
+pub kept_is_best : (rules : Rules) (rows : List Row) (all : List NodePlace) (root : List Entry) (kept : Option RankedAnswer) → rows_of all root ≡ rows
     → AreListed all root root → AreRanked rules root → IsKept root kept → IsBest rules rows (best_of kept)
 kept_is_best rules rows all root kept v listed ranked h = grind (arith, common_steps, score_kept, kept_score, before_ranks)

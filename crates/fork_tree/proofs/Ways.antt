@@ -1,6 +1,6 @@
 -- Each row that may start is met on the way up from a row that ended.
 use Rattle.fork_tree.proofs.Common.{◌≡◌, ℕ, zero, suc, ◌+◌, ◌<◌, ◌≤◌, ◌⊎◌, inl, inr, Bool, true, false, IsTrue, List, [], ◌∷◌, ◌++◌, map, Option, Some, None, slice_get, refl, ap, sym, subst, ◌∙◌, arith, if◌then◌else◌, eqb, Row, is_open, is_idle}
-use Rattle.fork_tree.proofs.Common.{is_ended, is_row, goes_before, parent_ended, and_left, MayStart, may_start_facts, may_start_of, or_cases, option_same, NewRow, Place, Entry, rows_of, AreOlder, plain_state, has_ended, open_rows, is_unended}
+use Rattle.fork_tree.proofs.Common.{is_ended, is_row, goes_before, parent_ended, and_left, MayStart, may_start_facts, may_start_of, or_cases, option_same, NewRow, NodePlace, Entry, rows_of, AreOlder, plain_state, has_ended, open_rows, is_unended}
 use Rattle.fork_tree.proofs.Common.{with_state, append-nil, waiting_row, parent_of, from_parent, leads, open_below, never_tried, closed_row, IsOnWay, AreMet, IsKnown, AreKnown, NoneUnder, eqb-true, idle_not_ended, slice_get_within, there_at}
 use Rattle.fork_tree.proofs.Common.{one_there, false_from_ne_true, AreBelow, common_steps}
 use Rattle.fork_model.specs.Table.{State, Idle}
@@ -206,14 +206,14 @@ known_pop n (y ∷ recent) x h = let rest = known_pop n recent x h.1 in ((h.0, r
 
 -- ---- of a tree
 
-tree_step : (all more : List Place) (root new : List Entry) (now fresh : List Row) (n : ℕ) (s : row_state.State) (test : State → Bool) → AreOlder all
+tree_step : (all more : List NodePlace) (root new : List Entry) (now fresh : List Row) (n : ℕ) (s : row_state.State) (test : State → Bool) → AreOlder all
     → AreOlder more → rows_of all root ≡ now
     → IsTrue (is_row test (slice_get now n)) → rows_of more new ≡ with_state (rows_of all root) n (plain_state s) ++ fresh
     → AreBelow (Some n) (plain_state s) fresh
     → (rn : Row) × IsStep (rows_of all root) (rows_of more new) fresh n rn (plain_state s)
 tree_step all more root new now fresh n s test older olds v there made below = grind (arith, some_row, older_rows)
 
-pub tree_met_set : (all : List Place) (root new : List Entry) (now : List Row) (n : ℕ) (s : row_state.State) (recent : List (Option ℕ)) → AreOlder all → rows_of all root ≡ now
+pub tree_met_set : (all : List NodePlace) (root new : List Entry) (now : List Row) (n : ℕ) (s : row_state.State) (recent : List (Option ℕ)) → AreOlder all → rows_of all root ≡ now
     → AreMet (rows_of all root) recent → IsTrue (is_row is_unended (slice_get now n)) → rows_of all new ≡ with_state (rows_of all root) n (plain_state s) → has_ended s ≡ false
     → is_idle (plain_state s) ≡ false → AreMet (rows_of all new) recent
 tree_met_set all root new now n s recent older v met there made on busy =
@@ -222,7 +222,7 @@ tree_met_set all root new now n s recent older v met there made on busy =
     (λ k row is. absurd (none_new k row is)) in
     met_set (rows_of all root) (rows_of all new) n step.0 (plain_state s) recent step.1 busy (ended_plain s ∙ on) met
 
-pub tree_met_end : (all more : List Place) (root new : List Entry) (now : List Row) (new_rows : List NewRow) (n : ℕ) (s : row_state.State) (recent : List (Option ℕ)) → AreOlder all → AreOlder more
+pub tree_met_end : (all more : List NodePlace) (root new : List Entry) (now : List Row) (new_rows : List NewRow) (n : ℕ) (s : row_state.State) (recent : List (Option ℕ)) → AreOlder all → AreOlder more
     → rows_of all root ≡ now → AreMet (rows_of all root) recent → IsTrue (is_row is_open (slice_get now n))
     → rows_of more new ≡ with_state (rows_of all root) n (plain_state s) ++ map (waiting_row (Some n)) new_rows → has_ended s ≡ true → AreMet (rows_of more new) (recent ++ Some n ∷ [])
 tree_met_end all more root new now new_rows n s recent older olds v met there made ends =

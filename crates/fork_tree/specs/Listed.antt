@@ -2,7 +2,7 @@
 use Rattle.std.specs.Prelude.{◌≡◌, ◌<◌, ◌≤◌, ℕ, List, [], ◌∷◌, length, Option, Some, None}
 use Rattle.fork_model.specs.Table.{Rules, most_targets}
 use Rattle.fork_model.specs.Rank.{rank_of}
-use Rattle.fork_tree.specs.declared.place.Place.{Place}
+use Rattle.fork_tree.specs.declared.place.NodePlace.{NodePlace}
 use Rattle.fork_tree.specs.declared.summary.RankedAnswer.{RankedAnswer}
 use Rattle.fork_tree.specs.declared.summary.Summary.{Summary}
 use Rattle.fork_tree.specs.declared.row.State.{State}
@@ -13,12 +13,12 @@ use Rattle.fork_tree.specs.Rows.{Entry, find}
 use Rattle.fork_tree.specs.Places.{path_of, IsPlaced, AreOlder}
 use Rattle.fork_tree.specs.Summary.{IsSummary}
 
-pub record IsAt (all : List Place) (root : List Entry) (e : Entry) : Type 0 where
+pub record IsAt (all : List NodePlace) (root : List Entry) (e : Entry) : Type 0 where
   pub known : e.cell.number < length all
   pub path : e.path ≡ path_of all e.cell.number
   pub found : find root (path_of all e.cell.number) ≡ Some e.cell
 
-abbrev pub AreListed : List Place → List Entry → List Entry → Type 0
+abbrev pub AreListed : List NodePlace → List Entry → List Entry → Type 0
 AreListed all root [] = Unit {0}
 AreListed all root (e ∷ es) = IsAt all root e × AreListed all root es
 
@@ -45,7 +45,7 @@ AreRanked rules (e ∷ es) =
     (e.cell.standing.answer ≡ kept_of rules e.cell.number e.cell.standing.state) × AreRanked rules es
 
 -- what holds of every tree: its table of places leads to each row's node, and what it keeps is that of all rows
-pub record IsTree (rules : Rules) (all : List Place) (root : List Entry) (t : Summary) : Type 0 where
+pub record IsTree (rules : Rules) (all : List NodePlace) (root : List Entry) (t : Summary) : Type 0 where
   pub older : AreOlder all
   pub placed : IsPlaced all root
   pub listed : AreListed all root root

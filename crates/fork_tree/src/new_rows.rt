@@ -5,7 +5,7 @@ ghost use Rattle.fork_tree.specs.NewRows.{new_rows_of};
 
 use crate::new_row::NewRow;
 use crate::node::{Level, branches};
-use crate::place::Room;
+use crate::place::TreeRoom;
 use std::alloc::{AllocError, Allocator, Global};
 use std::marker::Model;
 
@@ -17,7 +17,7 @@ pub struct NewRows<A: Allocator = Global> {
     pub(crate) level: Level<A>,
     pub(crate) new_rows: Vec<NewRow, A>,
     /// Room for all rows of the tree that they come into.
-    pub(crate) room: Room<A>,
+    pub(crate) room: TreeRoom<A>,
 }
 
 impl<A: Allocator> Model for NewRows<A> {
@@ -45,7 +45,7 @@ impl<A: Allocator + Clone> NewRows<A> {
     {
         let count = qs.len() as u16;
         let rows = if count > 0 { first + count + 1 } else { 0 };
-        let room = Room::of(&alloc, rows)?;
+        let room = TreeRoom::of(&alloc, rows)?;
         let (level, new_rows) = branches(&alloc, first, qs)?;
         Ok(NewRows {
             first,

@@ -38,13 +38,13 @@ pub struct Node<A: Allocator = Global> {
 #[cycle(node)]
 #[derive(Drop)]
 pub(crate) struct Level<A: Allocator = Global> {
-    groups: Vec<Group<A>, A>,
+    groups: Vec<NodeGroup<A>, A>,
 }
 
 /// Branches of one q, which are tried together.
 #[cycle(node)]
 #[derive(Drop)]
-pub(crate) struct Group<A: Allocator = Global> {
+pub(crate) struct NodeGroup<A: Allocator = Global> {
     nodes: Vec<Node<A>, A>,
     /// How many of these branches, and of those below them, have not ended.
     open_count: u16,
@@ -68,7 +68,7 @@ impl<A: Allocator> Model for Node<A> {
     ghost size_decreases = { λ a h. omega arith };
 }
 
-impl<A: Allocator> Model for Group<A> {
+impl<A: Allocator> Model for NodeGroup<A> {
     ghost use Rattle.std.specs.Prelude.{List, ◌+◌, ◌*◌, ℕ, length};
     ghost use Rattle.std.proofs.Common.{arith};
     ghost use Rattle.std.specs.Prelude.{◌≡◌};
@@ -286,7 +286,7 @@ impl<A: Allocator> Level<A> {
     }
 }
 
-impl<A: Allocator> Group<A> {
+impl<A: Allocator> NodeGroup<A> {
     /// The branch at this place.
     fn child(&self, place: u16) -> &Node<A>
         requires there { IsTrue (is_some (find self.now (place ∷ []))) }
@@ -296,13 +296,13 @@ impl<A: Allocator> Group<A> {
     }
 
     /// The group of these branches, which all wait.
-    fn waiting(nodes: Vec<Node<A>, A>) -> Group<A>
+    fn waiting(nodes: Vec<Node<A>, A>) -> NodeGroup<A>
         requires few { length nodes.items ≤ most_targets }
         requires waiting { AreWaiting nodes.items }
         ensures { result ≡ joined 0 nodes.items }
     {
         let open_count = nodes.len() as u16;
-        Group { nodes, open_count }
+        NodeGroup { nodes, open_count }
     }
 
     /// How many branches of the group, and of those below them, have not ended.
@@ -424,7 +424,7 @@ fn no_nodes<A: Allocator + Clone>(alloc: &A, qs: &[u16]) -> Result<Vec<Node<A>, 
 /// The nodes of the group that goes on, or none, after these were made a group, where another begins with the first of `qs`.
 fn in_group<A: Allocator + Clone>(
     alloc: &A,
-    groups: &mut Vec<Group<A>, A>,
+    groups: &mut Vec<NodeGroup<A>, A>,
     nodes: Vec<Node<A>, A>,
     begins: bool,
     qs: &[u16],
@@ -439,7 +439,7 @@ fn in_group<A: Allocator + Clone>(
     ensures waiting { IfOk result (λ next. AreWaiting next.items) }
 {
     if begins {
-        groups.push(Group::waiting(nodes))?;
+        groups.push(NodeGroup::waiting(nodes))?;
         let none = no_nodes(alloc, qs)?;
         Ok(none)
     } else {
@@ -449,7 +449,7 @@ fn in_group<A: Allocator + Clone>(
 
 /// The level of these groups, and last of the group of these nodes, if there are any.
 fn whole<A: Allocator>(
-    mut groups: Vec<Group<A>, A>,
+    mut groups: Vec<NodeGroup<A>, A>,
     nodes: Vec<Node<A>, A>,
 ) -> Result<Level<A>, AllocError>
     requires few { length nodes.items ≤ most_targets }
@@ -460,6 +460,6 @@ fn whole<A: Allocator>(
     if nodes.is_empty() {
         return Ok(Level { groups });
     }
-    groups.push(Group::waiting(nodes))?;
+    groups.push(NodeGroup::waiting(nodes))?;
     Ok(Level { groups })
 }

@@ -7,7 +7,7 @@ use std::alloc::{AllocError, Allocator, Global};
 
 /// Where a row stands: under which row, in which group there, at which place in it.
 #[derive(Clone, Copy, PartialEq, Eq, Debug)]
-pub(crate) struct Place {
+pub(crate) struct NodePlace {
     pub(crate) parent: Option<u16>,
     pub(crate) group: u16,
     pub(crate) place: u16,
@@ -15,22 +15,22 @@ pub(crate) struct Place {
 
 /// Empty lists with room for what is kept of rows by their numbers.
 #[derive(Drop)]
-pub(crate) struct Room<A: Allocator = Global> {
+pub(crate) struct TreeRoom<A: Allocator = Global> {
     /// Where each row stands.
-    pub(crate) places: Vec<Place, A>,
+    pub(crate) places: Vec<NodePlace, A>,
     /// The path to a row, while it changes.
     pub(crate) path: Vec<u16, A>,
     /// The rows from which the search for a group that may start sets out.
     pub(crate) recent: Vec<Option<u16>, A>,
 }
 
-impl<A: Allocator + Clone> Room<A> {
+impl<A: Allocator + Clone> TreeRoom<A> {
     /// Room for `rows` rows, the top counted as one.
-    pub(crate) fn of(alloc: &A, rows: u16) -> Result<Room<A>, AllocError>
+    pub(crate) fn of(alloc: &A, rows: u16) -> Result<TreeRoom<A>, AllocError>
         ensures { IfOk result (λ room. HasRoom room rows) }
     {
         let rows = rows as usize;
-        Ok(Room {
+        Ok(TreeRoom {
             places: Vec::with_capacity(alloc.clone()?, rows)?,
             path: Vec::with_capacity(alloc.clone()?, 2 * rows)?,
             recent: Vec::with_capacity(alloc.clone()?, rows)?,
@@ -61,7 +61,7 @@ pub(crate) fn make_room<T: Copy, A: Allocator>(
 }
 
 /// Adds the path from the top to row n: group, place, group, place ..
-pub(crate) fn trace<A: Allocator>(places: &[Place], n: u16, path: &mut Vec<u16, A>)
+pub(crate) fn trace<A: Allocator>(places: &[NodePlace], n: u16, path: &mut Vec<u16, A>)
     requires known { n < length places.now }
     requires older { AreOlder places.now }
     requires room { vec_len path.old + 2 * n + 2 ≤ vec_capacity path.old }
@@ -69,7 +69,7 @@ pub(crate) fn trace<A: Allocator>(places: &[Place], n: u16, path: &mut Vec<u16, 
     ensures len { vec_len path.new ≤ vec_len path.old + 2 * n + 2 }
     ensures capacity { vec_capacity path.new ≡ vec_capacity path.old }
 {
-    let place = place_of(places, n);
+    let place = node_place(places, n);
     if let Some(m) = place.parent {
         trace(places, m, path);
     }
@@ -78,7 +78,7 @@ pub(crate) fn trace<A: Allocator>(places: &[Place], n: u16, path: &mut Vec<u16, 
 }
 
 /// Where row n stands.
-pub(crate) fn place_of(places: &[Place], n: u16) -> Place
+pub(crate) fn node_place(places: &[NodePlace], n: u16) -> NodePlace
     requires { n < length places.now }
     ensures { slice_get places.now n ≡ Some result }
 {

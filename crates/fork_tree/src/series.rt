@@ -10,7 +10,7 @@ ghost use Rattle.fork_tree.specs.Search.{AreKnown, AreMet, IsKnown};
 ghost use Rattle.fork_tree.specs.inner.Search.{FindsOnWay, FindsStart, IsShape, OrBelow};
 
 use crate::node::{Level, Node};
-use crate::place::{Place, place_of};
+use crate::place::{NodePlace, node_place};
 use crate::tree::ForkTree;
 use std::alloc::Allocator;
 
@@ -59,7 +59,7 @@ impl<A: Allocator> ForkTree<A> {
 /// Some group that may start, by the latest of these rows from which one is found; those after it are dropped.
 fn next_ready<A: Allocator>(
     root: &Level<A>,
-    places: &[Place],
+    places: &[NodePlace],
     recent: &mut Vec<Option<u16>, A>,
 ) -> Option<(u16, u16)>
     requires shape { IsShape places.now root.now }
@@ -87,7 +87,7 @@ fn next_ready<A: Allocator>(
 /// where there is no row.
 fn ready_on_way<A: Allocator>(
     root: &Level<A>,
-    places: &[Place],
+    places: &[NodePlace],
     under: Option<u16>,
 ) -> Option<(u16, u16)>
     requires shape { IsShape places.now root.now }
@@ -103,7 +103,7 @@ fn ready_on_way<A: Allocator>(
 /// The first group that may start on the way down to row n, those right below row n included, and the node of row n.
 fn ready_down_to<'a, A: Allocator>(
     root: &'a Level<A>,
-    places: &[Place],
+    places: &[NodePlace],
     n: u16,
 ) -> (Option<(u16, u16)>, &'a Node<A>)
     requires shape { IsShape places.now root.now }
@@ -111,7 +111,7 @@ fn ready_down_to<'a, A: Allocator>(
     ensures node { result.1.now ≡ under (path_of places.now n) root.now }
     ensures found { FindsOnWay (rows_of places.now root.now) (Some n) result.0 }
 {
-    let place = place_of(places, n);
+    let place = node_place(places, n);
     match place.parent {
         Some(m) => {
             let (found, above) = ready_down_to(root, places, m);

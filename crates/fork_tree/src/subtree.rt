@@ -7,7 +7,7 @@ ghost use Rattle.fork_tree.specs.Summary.{open_of};
 ghost use Rattle.fork_tree.specs.Places.{path_of, AreOlder, IsPlaced};
 
 use crate::node::{Level, Node};
-use crate::place::{Place, place_of};
+use crate::place::{NodePlace, node_place};
 use crate::summary::BestRef;
 use crate::tree::ForkTree;
 use std::alloc::Allocator;
@@ -43,13 +43,13 @@ impl<A: Allocator> Node<A> {
 }
 
 /// The node of row n, by its chain of parents.
-pub(crate) fn node_of<'a, A: Allocator>(root: &'a Level<A>, places: &[Place], n: u16) -> &'a Node<A>
+pub(crate) fn node_of<'a, A: Allocator>(root: &'a Level<A>, places: &[NodePlace], n: u16) -> &'a Node<A>
     requires known { n < length places.now }
     requires older { AreOlder places.now }
     requires placed { IsPlaced places.now root.now }
     ensures { result.now ≡ under (path_of places.now n) root.now }
 {
-    let place = place_of(places, n);
+    let place = node_place(places, n);
     match place.parent {
         Some(m) => node_of(root, places, m).child(place.group, place.place),
         None => root.child(place.group, place.place),

@@ -16,7 +16,7 @@ ghost use Rattle.fork_tree.specs.inner.Tree.{is_unended};
 use crate::new_row::NewRow;
 use crate::new_rows::NewRows;
 use crate::node::{Level, branches};
-use crate::place::{Place, Room, make_room, place_of, trace};
+use crate::place::{NodePlace, TreeRoom, make_room, node_place, trace};
 use crate::row::{End, RowRef, State};
 use crate::subtree::node_of;
 use crate::summary::{BestRef, BranchState, Summary};
@@ -30,7 +30,7 @@ use std::marker::Model;
 pub struct ForkTree<A: Allocator = Global> {
     rules: Rules,
     pub(crate) root: Level<A>,
-    pub(crate) places: Vec<Place, A>,
+    pub(crate) places: Vec<NodePlace, A>,
     path: Vec<u16, A>,
     summary: Summary,
     /// Rows that ended: each group that may start stands below one of these, beside it, or beside a row above it. None
@@ -70,11 +70,11 @@ impl<A: Allocator + Clone> ForkTree<A> {
         requires few { length qs.now ≤ most_targets }
         ensures { IfOk result (λ tree. tree ≡ record { rules = rules; rows = map (waiting_row None) (new_rows_of qs.now) }) }
     {
-        let Room {
+        let TreeRoom {
             mut places,
             path,
             mut recent,
-        } = Room::of(&alloc, qs.len() as u16 + 1)?;
+        } = TreeRoom::of(&alloc, qs.len() as u16 + 1)?;
         recent.push_reserved(None);
         let (root, new_rows) = branches(&alloc, 0, qs)?;
         add_places(&mut places, None, &new_rows);
@@ -112,7 +112,7 @@ impl<A: Allocator> ForkTree<A> {
         if n as usize >= self.places.len() {
             return None;
         }
-        let place = place_of(&self.places, n);
+        let place = node_place(&self.places, n);
         let node = node_of(&self.root, &self.places, n);
         Some(RowRef {
             no: n,
@@ -131,7 +131,7 @@ impl<A: Allocator> ForkTree<A> {
         if n as usize >= self.places.len() {
             return None;
         }
-        place_of(&self.places, n).parent
+        node_place(&self.places, n).parent
     }
 
     /// The stored answer that none ranks before (RFC 3261 section 16.7 step 6); None where nothing is stored.
@@ -224,13 +224,13 @@ impl<A: Allocator> ForkTree<A> {
 }
 
 /// Adds the place of each new row under this row, or at the top.
-fn add_places<A: Allocator>(places: &mut Vec<Place, A>, parent: Option<u16>, new_rows: &[NewRow])
+fn add_places<A: Allocator>(places: &mut Vec<NodePlace, A>, parent: Option<u16>, new_rows: &[NewRow])
     requires room { vec_len places.old + length new_rows.now ≤ vec_capacity places.old }
     ensures items { places.new.items ≡ places.old.items ++ map (place_in parent) new_rows.now }
     ensures capacity { vec_capacity places.new ≡ vec_capacity places.old }
 {
     for i in 0..new_rows.len() {
-        places.push_reserved(Place {
+        places.push_reserved(NodePlace {
             parent,
             group: new_rows[i].group,
             place: new_rows[i].place,

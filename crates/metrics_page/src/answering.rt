@@ -1,7 +1,7 @@
 //! Answering scrapers, many at a time.
 use crate::scraper::Scraper;
 use crate::sockets::PageSockets;
-use socket_poll::{Came, MOST_CLIENTS, is_gone, place_of_first, wait_for};
+use socket_poll::{MOST_CLIENTS, PolledEvents, is_gone, place_of_first, wait_for};
 use std::alloc::Global;
 use std::net::TcpListener;
 use std::time::{Clock, Duration, Instant};
@@ -14,7 +14,7 @@ const LONGEST: u64 = 1_500;
 const REST: u64 = 100;
 
 /// What has counters.
-pub trait Counted {
+pub trait MetricsSource {
     /// The counters, in the text form of Prometheus.
     ///
     /// # Errors
@@ -28,14 +28,14 @@ pub trait Counted {
 
 /// What scrapers are answered by.
 #[derive(Drop)]
-struct Desk<'a, R, C> {
+struct ScraperClients<'a, R, C> {
     rt: &'a R,
     alloc: Global,
     counted: &'a C,
     began: Instant,
 }
 
-impl<'a, R: Clock + PageSockets, C: Counted> Desk<'a, R, C> {
+impl<'a, R: Clock + PageSockets, C: MetricsSource> ScraperClients<'a, R, C> {
     /// The time since the beginning, in milliseconds. Where the clock cannot be read, the time of every scraper is over.
     fn now(&self) -> u64 {
         match self.began.elapsed(self.rt) {
@@ -65,7 +65,7 @@ impl<'a, R: Clock + PageSockets, C: Counted> Desk<'a, R, C> {
     }
 
     /// Does what came of each scraper's connection asks for.
-    fn advance_all(&self, scrapers: &mut Vec<Scraper>, came: &Came) {
+    fn advance_all(&self, scrapers: &mut Vec<Scraper>, came: &PolledEvents) {
         let now = self.now();
         for place in (0..scrapers.len()).rev() {
             let stands = match scrapers.get_mut(place) {
@@ -107,7 +107,7 @@ impl<'a, R: Clock + PageSockets, C: Counted> Desk<'a, R, C> {
 /// Answers scrapers by [`Page`](crate::Page), as many as 64 at a time, until the end: it returns at once as the listener is shut down, once
 /// the end has come. A scraper has a second and a half for all of its request and its answer, whatever others do; where one more comes, the
 /// one whose time is over first is closed.
-pub fn answer_scrapers<R: Clock + PageSockets, C: Counted>(
+pub fn answer_scrapers<R: Clock + PageSockets, C: MetricsSource>(
     rt: &R,
     alloc: Global,
     counted: &C,
@@ -116,7 +116,7 @@ pub fn answer_scrapers<R: Clock + PageSockets, C: Counted>(
     let Ok(began) = Instant::now(rt) else {
         return;
     };
-    let desk = Desk {
+    let desk = ScraperClients {
         rt,
         alloc,
         counted,

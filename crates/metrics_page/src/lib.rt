@@ -6,6 +6,6 @@ mod page;
 mod scraper;
 mod sockets;
 
-pub use answering::{Counted, answer_scrapers};
+pub use answering::{MetricsSource, answer_scrapers};
 pub use page::{Page, PageKind, page_kind};
 pub use sockets::PageSockets;

@@ -18,8 +18,8 @@ use Rattle.sip_uri.specs.declared.hop.Hop.{Hop}
 use Rattle.sip_uri.specs.declared.hop.Transport.TheVariants.{Udp}
 use Rattle.sip_uri.proofs.laws.Found.{found}
 use Rattle.sip_uri.proofs.laws.Only.{read_again}
-use Rattle.proxy_config.specs.declared.draft.Phase.{Phase}
-use Rattle.proxy_config.specs.declared.draft.Phase.TheVariants.{AtOwn, AtInstance, AtDomain, AtPrefer, AtDepth, AtLocations}
+use Rattle.proxy_config.specs.declared.draft.SetupPhase.{SetupPhase}
+use Rattle.proxy_config.specs.declared.draft.SetupPhase.TheVariants.{AtOwn, AtInstance, AtDomain, AtPrefer, AtDepth, AtLocations}
 use Rattle.proxy_config.specs.Setup.{usual_longest}
 use Rattle.proxy_config.specs.Configuration.{Shown, line_if, location_line, AreRules, IsLocation, IsSetup, Begins}
 use Rattle.proxy_config.specs.inner.Reading.{IsSound, phase_after, in_phase}
@@ -44,13 +44,13 @@ location_added earlier location may h =
     ∙ ap (λ (n : ℕ). added earlier (record location { longest = n })) (sym h.longest)
     ∙ ap (λ t. cond t (Some (earlier ++ location ∷ [])) None) (passes earlier location may)
 
-abbrev TakesLocations : Phase → Type 0
+abbrev TakesLocations : SetupPhase → Type 0
 TakesLocations phase = (user : List ℕ) (q : ℕ) (uri : List ℕ) → phase_after phase (LocationLine user q uri) ≡ Some AtLocations
 
 abbrev with_one : Setup → Location → Setup
 with_one setup location = record setup { locations = setup.locations ++ location ∷ [] }
 
-location_drafted : (phase : Phase) (setup : Setup) (location : Location) → TakesLocations phase → MayFollow setup.locations location → IsLocation location
+location_drafted : (phase : SetupPhase) (setup : Setup) (location : Location) → TakesLocations phase → MayFollow setup.locations location → IsLocation location
     → drafted_line (in_phase setup phase) (location_line location) ≡ Some (in_phase (with_one setup location) AtLocations)
 location_drafted phase setup location takes may h =
     ap (option_and_then (λ p. option_map (λ s. in_phase s p) (with_line setup (location_line location)))) (takes location.user location.q (spelling location.uri))
@@ -58,11 +58,11 @@ location_drafted phase setup location takes may h =
 
 -- these lines lead to the whole setup
 pub record Reached (draft : Draft) (lines : List Line) (setup : Setup) : Type 0 where
-  pub phase : Phase
+  pub phase : SetupPhase
   pub due : drafted_lines draft lines ≡ Some (in_phase setup phase)
   pub whole : is_whole phase ≡ true
 
-locations_drafted : (phase : Phase) (setup : Setup) (locations : List Location) → TakesLocations phase → is_whole phase ≡ true → KeepsFrom setup.locations locations → AllByRecursion IsLocation locations
+locations_drafted : (phase : SetupPhase) (setup : Setup) (locations : List Location) → TakesLocations phase → is_whole phase ≡ true → KeepsFrom setup.locations locations → AllByRecursion IsLocation locations
     → Reached (in_phase setup phase) (map location_line locations) (record setup { locations = setup.locations ++ locations })
 locations_drafted phase setup [] takes whole kept all = record {
   phase = phase;
@@ -166,7 +166,7 @@ record BehindRules (s : Setup) (lines : List Line) (next : Draft) : Type 0 where
   right : AllByRecursion IsLocation more
   same : record s { locations = s.locations ++ more } ≡ next.setup
 
-none_behind : (phase : Phase) (s : Setup) (next : Draft) → drafted_lines (in_phase s phase) [] ≡ Some next → BehindRules s [] next
+none_behind : (phase : SetupPhase) (s : Setup) (next : Draft) → drafted_lines (in_phase s phase) [] ≡ Some next → BehindRules s [] next
 none_behind phase s next due = record {
   more = [];
   spelled = refl;
@@ -365,7 +365,7 @@ any_own = record { addr = 0 ∷ 0 ∷ 0 ∷ 1 ∷ []; port = 1; transport = Udp 
 own_is_any : IsOwn any_own
 own_is_any = record { four = refl; bytes = (omega arith, (omega arith, (omega arith, (omega arith, tt)))); host = refl; port = omega arith; port_within = omega arith; transport = refl }
 
-completed : (phase : Phase) (s : Setup) → Completed (in_phase s phase)
+completed : (phase : SetupPhase) (s : Setup) → Completed (in_phase s phase)
 completed AtOwn s = record {
   more = OwnLine any_own ∷ InstanceLine 0 ∷ DomainLine (97 ∷ []) ∷ [];
   right = (own_is_any, (omega arith, (refl, tt)));

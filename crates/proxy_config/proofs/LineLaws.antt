@@ -12,11 +12,11 @@ use Rattle.fork_text.proofs.laws.Field.{number_before_found, number_from_found}
 use Rattle.std.specs.Prelude.{bytes_eq}
 use Rattle.sip_uri.specs.declared.hop.Transport.TheVariants.{Udp}
 use Rattle.proxy_config.specs.Line.{no_host}
-use Rattle.proxy_config.specs.declared.line.Word.{Word}
-use Rattle.proxy_config.specs.declared.line.Word.TheVariants as word
+use Rattle.proxy_config.specs.declared.line.SetupWord.{SetupWord}
+use Rattle.proxy_config.specs.declared.line.SetupWord.TheVariants as word
 use Rattle.proxy_config.specs.LineReading.{read_host, word_of, read_rest, read_cut}
 
-abbrev word_text : Word → List ℕ
+abbrev word_text : SetupWord → List ℕ
 word_text word.Own = codes "own"
 word_text word.Instance = codes "instance"
 word_text word.Domain = codes "domain"
@@ -24,11 +24,11 @@ word_text word.Prefer = codes "prefer"
 word_text word.Depth = codes "depth"
 word_text word.Location = codes "location"
 
-word_step : (b : Bool) (text : List ℕ) (w v : Word) (r : Option Word) → (b ≡ true → text ≡ word_text w) → (r ≡ Some v → text ≡ word_text v) → cond b (Some w) r ≡ Some v → text ≡ word_text v
+word_step : (b : Bool) (text : List ℕ) (w v : SetupWord) (r : Option SetupWord) → (b ≡ true → text ≡ word_text w) → (r ≡ Some v → text ≡ word_text v) → cond b (Some w) r ≡ Some v → text ≡ word_text v
 word_step true text w v r same others e = same refl ∙ ap word_text (same_Some _ _ e)
 word_step false text w v r same others e = others e
 
-word_found : (text : List ℕ) (v : Word) → word_of text ≡ Some v → text ≡ word_text v
+word_found : (text : List ℕ) (v : SetupWord) → word_of text ≡ Some v → text ≡ word_text v
 word_found text v =
     word_step _ text word.Own v _ (bytes_eq-Decides text (codes "own")).0
     (word_step _ text word.Instance v _ (bytes_eq-Decides text (codes "instance")).0
@@ -129,7 +129,7 @@ location_found text line e = parts (cut (is 32) text) (cut_joins 32 text) e
         g.1
 
 -- behind a word and its space
-rest_found : (w : Word) (rest : List ℕ) (line : Line) → read_rest w rest ≡ Some line → Found (word_text w ++ 32 ∷ rest) line
+rest_found : (w : SetupWord) (rest : List ℕ) (line : Line) → read_rest w rest ≡ Some line → Found (word_text w ++ 32 ∷ rest) line
 rest_found word.Own rest line e =
     found_map OwnLine (read_own rest) line (Found (codes "own" ++ 32 ∷ rest))
     (λ own at. let h = own_found rest own at in (ap (λ (text : List ℕ). codes "own " ++ text) h.0, h.1)) e

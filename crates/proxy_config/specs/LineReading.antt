@@ -9,8 +9,8 @@ use Rattle.fork_text.specs.Preferred.{read_preferred}
 use Rattle.sip_uri.specs.Host.{is_host}
 use Rattle.sip_uri.specs.declared.hop.Transport.TheVariants.{Udp}
 use Rattle.sip_via.specs.declared.own.Own.{Own}
-use Rattle.proxy_config.specs.declared.line.Word.{Word}
-use Rattle.proxy_config.specs.declared.line.Word.TheVariants as word
+use Rattle.proxy_config.specs.declared.line.SetupWord.{SetupWord}
+use Rattle.proxy_config.specs.declared.line.SetupWord.TheVariants as word
 use Rattle.proxy_config.specs.Line.{Line, OwnLine, InstanceLine, DomainLine, PreferLine, DepthLine, LocationLine, is_user, most_port, most_instance, no_host}
 
 -- ---- the own address
@@ -60,7 +60,7 @@ location_cut (user, Some rest) = if is_user user then option_map (location_of us
 abbrev pub read_location : List ℕ → Option Line
 read_location text = location_cut (cut (is 32) text)
 
-abbrev pub word_of : List ℕ → Option Word
+abbrev pub word_of : List ℕ → Option SetupWord
 word_of text =
     if bytes_eq text (codes "own") then Some word.Own
     else (if bytes_eq text (codes "instance") then Some word.Instance
@@ -71,7 +71,7 @@ word_of text =
     else None)))))
 
 -- what stands behind the word and its space
-abbrev pub read_rest : Word → List ℕ → Option Line
+abbrev pub read_rest : SetupWord → List ℕ → Option Line
 read_rest word.Own rest = option_map OwnLine (read_own rest)
 read_rest word.Instance rest = option_map InstanceLine (plain_number_within most_instance rest)
 read_rest word.Domain rest = option_map DomainLine (read_host rest)

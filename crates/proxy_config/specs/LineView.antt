@@ -1,9 +1,9 @@
 -- The line that a line of the program stands for.
-use Rattle.proxy_config.specs.declared.line.Line.{Line}
-use Rattle.proxy_config.specs.declared.line.Line.TheVariants as line
+use Rattle.proxy_config.specs.declared.line.SetupLine.{SetupLine}
+use Rattle.proxy_config.specs.declared.line.SetupLine.TheVariants as line
 use Rattle.proxy_config.specs.Line as spec
 
-abbrev pub line_of : Line → spec.Line
+abbrev pub line_of : SetupLine → spec.Line
 line_of (line.Own own) = spec.OwnLine own
 line_of (line.Instance instance) = spec.InstanceLine instance
 line_of (line.Domain host) = spec.DomainLine host.now

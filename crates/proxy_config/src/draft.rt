@@ -5,7 +5,7 @@ ghost use Rattle.proxy_config.specs.inner.Reading.{IsSound, drafted, finished_dr
 ghost use Rattle.proxy_config.specs.ReadView.{GivesSetup};
 
 use crate::fault::SetupFault;
-use crate::line::{Line, read_line};
+use crate::line::{SetupLine, read_setup_line};
 use crate::parts::SetupParts;
 use crate::setup::Setup;
 use sip_lex::cut_at;
@@ -14,7 +14,7 @@ use std::marker::Model;
 
 /// Which lines may come: address, instance and domain first, then the rules, then the locations.
 #[derive(Clone, Copy, Debug, PartialEq, Eq)]
-pub enum Phase {
+pub enum SetupPhase {
     /// Nothing was read.
     AtOwn,
     /// The own address was read.
@@ -29,19 +29,19 @@ pub enum Phase {
     AtLocations,
 }
 
-impl Phase {
+impl SetupPhase {
     /// The phase behind a line; `None` where the line may not come.
-    fn after(self, line: &Line<'_>) -> Option<Phase>
+    fn after(self, line: &SetupLine<'_>) -> Option<SetupPhase>
         ensures { result ≡ phase_after self (line_of line.now) }
     {
         match (self, line) {
-            (Phase::AtOwn, Line::Own(_)) => Some(Phase::AtInstance),
-            (Phase::AtInstance, Line::Instance(_)) => Some(Phase::AtDomain),
-            (Phase::AtDomain, Line::Domain(_)) => Some(Phase::AtPrefer),
-            (Phase::AtPrefer, Line::Prefer(_)) => Some(Phase::AtDepth),
-            (Phase::AtPrefer | Phase::AtDepth, Line::Depth(_)) => Some(Phase::AtLocations),
-            (Phase::AtPrefer | Phase::AtDepth | Phase::AtLocations, Line::Location(_, _, _)) => {
-                Some(Phase::AtLocations)
+            (SetupPhase::AtOwn, SetupLine::Own(_)) => Some(SetupPhase::AtInstance),
+            (SetupPhase::AtInstance, SetupLine::Instance(_)) => Some(SetupPhase::AtDomain),
+            (SetupPhase::AtDomain, SetupLine::Domain(_)) => Some(SetupPhase::AtPrefer),
+            (SetupPhase::AtPrefer, SetupLine::Prefer(_)) => Some(SetupPhase::AtDepth),
+            (SetupPhase::AtPrefer | SetupPhase::AtDepth, SetupLine::Depth(_)) => Some(SetupPhase::AtLocations),
+            (SetupPhase::AtPrefer | SetupPhase::AtDepth | SetupPhase::AtLocations, SetupLine::Location(_, _, _)) => {
+                Some(SetupPhase::AtLocations)
             }
             _ => None,
         }
@@ -51,18 +51,18 @@ impl Phase {
     fn is_whole(self) -> bool
         ensures { result ≡ is_whole self }
     {
-        !matches!(self, Phase::AtOwn | Phase::AtInstance | Phase::AtDomain)
+        !matches!(self, SetupPhase::AtOwn | SetupPhase::AtInstance | SetupPhase::AtDomain)
     }
 }
 
 /// The lines read so far.
 #[derive(Drop)]
-struct Draft<A: Allocator> {
-    phase: Phase,
+struct SetupDraft<A: Allocator> {
+    phase: SetupPhase,
     parts: SetupParts<A>,
 }
 
-impl<A: Allocator> Model for Draft<A> {
+impl<A: Allocator> Model for SetupDraft<A> {
     ghost use Rattle.proxy_config.specs.inner.Reading as spec;
 
     ghost Value = { spec.Draft };
@@ -70,12 +70,12 @@ impl<A: Allocator> Model for Draft<A> {
     ghost view = { λ d. record { phase = d.phase; setup = d.parts } };
 }
 
-impl<A: Allocator + Clone> Draft<A> {
+impl<A: Allocator + Clone> SetupDraft<A> {
     fn new(alloc: &A) -> Result<Self, AllocError>
         ensures { IfOk result (λ draft. draft ≡ no_draft) }
     {
-        Ok(Draft {
-            phase: Phase::AtOwn,
+        Ok(SetupDraft {
+            phase: SetupPhase::AtOwn,
             parts: SetupParts::new(alloc)?,
         })
     }
@@ -85,7 +85,7 @@ impl<A: Allocator + Clone> Draft<A> {
     fn add(&mut self, alloc: &A, text: &[u8]) -> Result<bool, AllocError>
         ensures { IfOk result (λ done. (if done then Some self.new else None) ≡ drafted self.old text.now) }
     {
-        let Some(line) = read_line(text) else {
+        let Some(line) = read_setup_line(text) else {
             return Ok(false);
         };
         let Some(phase) = self.phase.after(&line) else {
@@ -115,7 +115,7 @@ impl<A: Allocator + Clone> Draft<A> {
 pub(crate) fn read_all<A: Allocator + Clone>(alloc: &A, text: &[u8]) -> Result<Setup<A>, SetupFault>
     ensures { GivesSetup (read_setup text.now) result }
 {
-    let mut draft = Draft::new(alloc)?;
+    let mut draft = SetupDraft::new(alloc)?;
     let mut number = 1;
     let mut rest = text;
     loop {

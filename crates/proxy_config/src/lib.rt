@@ -18,7 +18,7 @@ mod user_places;
 
 pub use fault::SetupFault;
 pub use law::locations_are_targets;
-pub use line::{Line, read_line, read_octets};
+pub use line::{SetupLine, read_octets, read_setup_line};
 pub use location::Location;
 pub use parts::{SetupParts, uri_if};
 pub use setup::Setup;

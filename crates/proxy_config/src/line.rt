@@ -9,7 +9,7 @@ ghost use Rattle.proxy_config.specs.LineReading.{octet_before, read_octets, read
 ghost use Rattle.proxy_config.specs.LineView.{line_of};
 
 use fork_rank::Preferred;
-use fork_text::{Depth, read_depth, read_number, read_number_before, read_preferred};
+use fork_text::{Depth, read_depth, read_preferred, read_small_number, read_small_number_before};
 use sip_lex::{cut_at, read_plain_number};
 use sip_uri::is_host;
 use sip_via::Own;
@@ -22,7 +22,7 @@ const NO_HOST: [u8; 4] = [0; 4];
 
 /// The word that begins a line.
 #[derive(Clone, Copy, Debug, PartialEq, Eq)]
-pub enum Word {
+pub enum SetupWord {
     Own,
     Instance,
     Domain,
@@ -33,7 +33,7 @@ pub enum Word {
 
 /// What a line says; texts are lent by the configuration. A location has its user, its q and its URI.
 #[derive(Clone, Copy, Debug)]
-pub enum Line<'a> {
+pub enum SetupLine<'a> {
     Own(Own),
     Instance(u32),
     Domain(&'a [u8]),
@@ -42,21 +42,21 @@ pub enum Line<'a> {
     Location(&'a [u8], u16, &'a [u8]),
 }
 
-fn word_of(text: &[u8]) -> Option<Word>
+fn word_of(text: &[u8]) -> Option<SetupWord>
     ensures { result ≡ word_of text.now }
 {
     if text == b"own".as_slice() {
-        Some(Word::Own)
+        Some(SetupWord::Own)
     } else if text == b"instance".as_slice() {
-        Some(Word::Instance)
+        Some(SetupWord::Instance)
     } else if text == b"domain".as_slice() {
-        Some(Word::Domain)
+        Some(SetupWord::Domain)
     } else if text == b"prefer".as_slice() {
-        Some(Word::Prefer)
+        Some(SetupWord::Prefer)
     } else if text == b"depth".as_slice() {
-        Some(Word::Depth)
+        Some(SetupWord::Depth)
     } else if text == b"location".as_slice() {
-        Some(Word::Location)
+        Some(SetupWord::Location)
     } else {
         None
     }
@@ -93,7 +93,7 @@ pub fn read_octets(text: &[u8]) -> Option<[u8; 4]>
 fn read_port(digits: &[u8]) -> Option<u16>
     ensures { result ≡ number_from 1 most_port digits.now }
 {
-    match read_number(digits, u16::MAX) {
+    match read_small_number(digits, u16::MAX) {
         None | Some(0) => None,
         Some(port) => Some(port),
     }
@@ -136,7 +136,7 @@ fn is_user(user: &[u8]) -> bool
 }
 
 /// A user, a q and what is to be a URI.
-fn read_location(text: &[u8]) -> Option<Line<'_>>
+fn read_location(text: &[u8]) -> Option<SetupLine<'_>>
     ensures { option_map line_of result ≡ read_location text.now }
 {
     match cut_at(text, b' ') {
@@ -145,34 +145,34 @@ fn read_location(text: &[u8]) -> Option<Line<'_>>
             if !is_user(user) {
                 return None;
             }
-            let (q, uri) = read_number_before(rest, MOST_Q)?;
-            Some(Line::Location(user, q, uri))
+            let (q, uri) = read_small_number_before(rest, MOST_Q)?;
+            Some(SetupLine::Location(user, q, uri))
         }
     }
 }
 
 /// What stands behind a word and its space.
-fn read_rest(word: Word, rest: &[u8]) -> Option<Line<'_>>
+fn read_rest(word: SetupWord, rest: &[u8]) -> Option<SetupLine<'_>>
     ensures { option_map line_of result ≡ read_rest word rest.now }
 {
     match word {
-        Word::Own => Some(Line::Own(read_own(rest)?)),
-        Word::Instance => Some(Line::Instance(read_instance(rest)?)),
-        Word::Domain => {
+        SetupWord::Own => Some(SetupLine::Own(read_own(rest)?)),
+        SetupWord::Instance => Some(SetupLine::Instance(read_instance(rest)?)),
+        SetupWord::Domain => {
             if is_host(rest) {
-                Some(Line::Domain(rest))
+                Some(SetupLine::Domain(rest))
             } else {
                 None
             }
         }
-        Word::Prefer => Some(Line::Prefer(read_preferred(rest)?)),
-        Word::Depth => Some(Line::Depth(read_depth(rest)?)),
-        Word::Location => read_location(rest),
+        SetupWord::Prefer => Some(SetupLine::Prefer(read_preferred(rest)?)),
+        SetupWord::Depth => Some(SetupLine::Depth(read_depth(rest)?)),
+        SetupWord::Location => read_location(rest),
     }
 }
 
 /// The line that a text spells; `None` where it spells none.
-pub fn read_line(line: &[u8]) -> Option<Line<'_>>
+pub fn read_setup_line(line: &[u8]) -> Option<SetupLine<'_>>
     ensures { option_map line_of result ≡ read_line line.now }
 {
     match cut_at(line, b' ') {

@@ -16,12 +16,12 @@ use std::marker::Model;
 
 /// Locations in the order of the text, and for each user where the user's stand among them.
 #[derive(Drop)]
-pub(crate) struct Listed<A: Allocator> {
+pub(crate) struct ListedLocations<A: Allocator> {
     locations: Vec<Location<A>, A>,
     places: UserPlaces<A>,
 }
 
-impl<A: Allocator> Model for Listed<A> {
+impl<A: Allocator> Model for ListedLocations<A> {
     ghost use Rattle.std.specs.Prelude.{List};
     ghost use Rattle.proxy_config.specs.inner.UserPlaces.{AreOf};
     ghost use Rattle.proxy_config.specs.Setup as spec;
@@ -81,7 +81,7 @@ fn ring_all<A: Allocator>(locations: &mut Vec<Location<A>, A>, longest: u64)
     }
 }
 
-impl<A: Allocator> Listed<A> {
+impl<A: Allocator> ListedLocations<A> {
     pub(crate) fn as_slice(&self) -> &[Location<A>]
         ensures { result.now ≡ self.now }
     {
@@ -96,11 +96,11 @@ impl<A: Allocator> Listed<A> {
     }
 }
 
-impl<A: Allocator + Clone> Listed<A> {
-    pub(crate) fn new(alloc: &A) -> Result<Listed<A>, AllocError>
+impl<A: Allocator + Clone> ListedLocations<A> {
+    pub(crate) fn new(alloc: &A) -> Result<ListedLocations<A>, AllocError>
         ensures { IfOk result (λ listed. listed ≡ []) }
     {
-        Ok(Listed {
+        Ok(ListedLocations {
             locations: Vec::new(alloc.clone()?),
             places: UserPlaces::new(alloc.clone()?),
         })

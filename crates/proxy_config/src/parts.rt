@@ -8,8 +8,8 @@ ghost use Rattle.proxy_config.specs.LineView.{line_of};
 ghost use Rattle.proxy_config.specs.Parts.{no_setup, uri_if, with_line, with_location};
 ghost use Rattle.proxy_config.specs.Setup.{IsKept};
 
-use crate::line::Line;
-use crate::listed::Listed;
+use crate::line::SetupLine;
+use crate::listed::ListedLocations;
 use crate::location::{Location, USUAL_LONGEST};
 use crate::setup::Setup;
 use fork_rank::Rules;
@@ -42,7 +42,7 @@ pub struct SetupParts<A: Allocator = Global> {
     instance: u32,
     domain: Vec<u8, A>,
     rules: Rules,
-    locations: Listed<A>,
+    locations: ListedLocations<A>,
     ring: u64,
 }
 
@@ -123,7 +123,7 @@ impl<A: Allocator + Clone> SetupParts<A> {
             instance: 0,
             domain: Vec::new(alloc.clone()?),
             rules: Rules::usual(),
-            locations: Listed::new(alloc)?,
+            locations: ListedLocations::new(alloc)?,
             ring: USUAL_LONGEST,
         })
     }
@@ -161,17 +161,17 @@ impl<A: Allocator + Clone> SetupParts<A> {
     /// # Errors
     ///
     /// Only where the allocator refuses.
-    pub fn add(&mut self, alloc: &A, line: Line<'_>) -> Result<bool, AllocError>
+    pub fn add(&mut self, alloc: &A, line: SetupLine<'_>) -> Result<bool, AllocError>
         requires { IsLine (line_of line) }
         ensures { IfOk result (λ done. (if done then Some self.new else None) ≡ with_line self.old (line_of line.entry)) }
     {
         match line {
-            Line::Own(own) => self.set_own(own),
-            Line::Instance(instance) => self.set_instance(instance),
-            Line::Domain(host) => self.set_domain(host.to_vec(alloc.clone()?)?),
-            Line::Prefer(preferred) => self.set_rules(with_preferred(self.rules, preferred)),
-            Line::Depth(depth) => self.set_rules(with_depth(self.rules, depth)),
-            Line::Location(user, q, uri) => {
+            SetupLine::Own(own) => self.set_own(own),
+            SetupLine::Instance(instance) => self.set_instance(instance),
+            SetupLine::Domain(host) => self.set_domain(host.to_vec(alloc.clone()?)?),
+            SetupLine::Prefer(preferred) => self.set_rules(with_preferred(self.rules, preferred)),
+            SetupLine::Depth(depth) => self.set_rules(with_depth(self.rules, depth)),
+            SetupLine::Location(user, q, uri) => {
                 return self.add_location(alloc, user, q, uri, USUAL_LONGEST);
             }
         }

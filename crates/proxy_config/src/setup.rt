@@ -8,7 +8,7 @@ ghost use Rattle.proxy_config.specs.Setup.{KeepsRules, locations_of, with_ring};
 
 use crate::draft::read_all;
 use crate::fault::SetupFault;
-use crate::listed::Listed;
+use crate::listed::ListedLocations;
 use crate::location::Location;
 use crate::user_locations::UserLocations;
 use fork_rank::Rules;
@@ -24,7 +24,7 @@ pub struct Setup<A: Allocator = Global> {
     pub(crate) instance: u32,
     pub(crate) domain: Vec<u8, A>,
     pub(crate) rules: Rules,
-    pub(crate) locations: Listed<A>,
+    pub(crate) locations: ListedLocations<A>,
     pub(crate) by_port: bool,
     pub(crate) for_service: bool,
     pub(crate) ring: u64,

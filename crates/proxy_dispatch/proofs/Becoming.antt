@@ -1,5 +1,5 @@
 -- What becomes of a message, put together.
-use Rattle.proxy_dispatch.proofs.Common.{◌≡◌, ◌∙◌, [], ◌∷◌, ℕ, List, Option, Some, None, Result, Ok, Err, refl, sym, subst, ap, inl, inr, Admits, MessageText, Hop, Own, ViaFault, request_key, Setup, IsAdmitted, Purpose, Passes, Look, Handled, Datagram, Call}
+use Rattle.proxy_dispatch.proofs.Common.{◌≡◌, ◌∙◌, [], ◌∷◌, ℕ, List, Option, Some, None, Result, Ok, Err, refl, sym, subst, ap, inl, inr, Admits, MessageText, Hop, Own, ViaFault, request_key, Setup, IsAdmitted, RequestKind, Passes, Look, Handled, Datagram, Call}
 use Rattle.std.proofs.Common.{Bool, true, false, ◌++◌}
 use Rattle.std.specs.Prelude.{IfOk, option_map}
 use Rattle.sip_via.specs.OwnVia.{over}
@@ -92,10 +92,10 @@ asked_so admits setup m source now key opener said b looks handled sent h e f be
 
 -- ---- a request
 
-pub purpose_at : (admits : Admits) (setup : Setup) (m : MessageText) (source : Hop) (now : ℕ) (purpose p : Purpose) (looks : List Look) (handled : Handled) (sent : Option Datagram)
+pub purpose_at : (admits : Admits) (setup : Setup) (m : MessageText) (source : Hop) (now : ℕ) (purpose p : RequestKind) (looks : List Look) (handled : Handled) (sent : Option Datagram)
     → purpose ≡ p → UnknownBecomes admits setup m source now p looks handled sent → UnknownBecomes admits setup m source now purpose looks handled sent
 purpose_at admits setup m source now purpose p looks handled sent e h =
-    let P : Purpose → Type 0 = λ x. UnknownBecomes admits setup m source now x looks handled sent in
+    let P : RequestKind → Type 0 = λ x. UnknownBecomes admits setup m source now x looks handled sent in
     subst P (sym e) h
 
 -- of a request whose key is this one
@@ -119,7 +119,7 @@ looked own key e number looks =
     let P : Option (List ℕ) → Type 0 = λ x. LooksFor x number (Found key number ∷ looks) looks in
     subst P (sym e) refl
 
-module _ {T : Type 0} (shows : Shows T) (admits : Admits) (setup : Setup) (m : MessageText) (source : Hop) (now : ℕ) (purpose : Purpose) (handled : Handled) (sent : Option Datagram) where
+module _ {T : Type 0} (shows : Shows T) (admits : Admits) (setup : Setup) (m : MessageText) (source : Hop) (now : ℕ) (purpose : RequestKind) (handled : Handled) (sent : Option Datagram) where
   -- a request without a key
   pub unkeyed : (old new : T) → request_key m ≡ None → Sees shows old new (λ looks. UnknownBecomes admits setup m source now purpose looks handled sent)
       → Sees shows old new (λ looks. RequestBecomes admits setup m source now purpose looks handled sent)
@@ -133,10 +133,10 @@ module _ {T : Type 0} (shows : Shows T) (admits : Admits) (setup : Setup) (m : M
       let P : Option ℕ → Type 0 = λ x. shows old (Found key x) mid in
       (Found key number ∷ looks, (mid, subst P f show, seen), (number, looks, looked (request_key m) key e number looks, h))
 
-pub message_so : (admits : Admits) (setup : Setup) (m : MessageText) (source : Hop) (now : ℕ) (looks : List Look) (handled : Handled) (sent : Option Datagram) (p : Option Purpose)
+pub message_so : (admits : Admits) (setup : Setup) (m : MessageText) (source : Hop) (now : ℕ) (looks : List Look) (handled : Handled) (sent : Option Datagram) (p : Option RequestKind)
     → purpose_of m.start ≡ p → BecomesBy admits setup m source now p looks handled sent → MessageBecomes admits setup m source now looks handled sent
 message_so admits setup m source now looks handled sent p e h =
-    let P : Option Purpose → Type 0 = λ x. BecomesBy admits setup m source now x looks handled sent in
+    let P : Option RequestKind → Type 0 = λ x. BecomesBy admits setup m source now x looks handled sent in
     subst P (sym e) h
 
 -- ---- a text that is no message

@@ -5,8 +5,8 @@ pub use Rattle.proxy_dispatch.specs.Admitting.{Admits}
 pub use Rattle.proxy_dispatch.specs.Looks.{Look}
 pub use Rattle.proxy_dispatch.specs.Passing.{Passes}
 pub use Rattle.proxy_dispatch.specs.declared.datagrams.Handled.{Handled}
-pub use Rattle.proxy_dispatch.specs.declared.purpose.Purpose.{Purpose}
-pub use Rattle.proxy_dispatch.specs.declared.purpose.Purpose.TheVariants.{Ack, Opening}
+pub use Rattle.proxy_dispatch.specs.declared.purpose.RequestKind.{RequestKind}
+pub use Rattle.proxy_dispatch.specs.declared.purpose.RequestKind.TheVariants.{Ack, Opening}
 pub use Rattle.proxy_dispatch.specs.inner.Sent.{seen_sent}
 pub use Rattle.proxy_routing.specs.Admission.{IsAdmitted}
 pub use Rattle.proxy_config.specs.Setup.{Setup}

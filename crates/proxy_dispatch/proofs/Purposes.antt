@@ -1,5 +1,5 @@
 -- What a message is, by what it is for.
-use Rattle.proxy_dispatch.proofs.Common.{◌≡◌, Option, Some, None, refl, Purpose, Opening}
+use Rattle.proxy_dispatch.proofs.Common.{◌≡◌, Option, Some, None, refl, RequestKind, Opening}
 use Rattle.std.proofs.Common.{true}
 use Rattle.std.specs.Prelude.{option_map}
 use Rattle.sip_text.specs.declared.method.Method.{Method}
@@ -31,6 +31,6 @@ pub no_purpose : (start : StartText) → purpose_of start ≡ None → is_respon
 no_purpose (Request method uri) e = absurd cc
 no_purpose (Response status reason) e = refl
 
-pub a_purpose : (start : StartText) (purpose : Purpose) → purpose_of start ≡ Some purpose → is_request start ≡ true
+pub a_purpose : (start : StartText) (purpose : RequestKind) → purpose_of start ≡ Some purpose → is_request start ≡ true
 a_purpose (Request method uri) purpose e = refl
 a_purpose (Response status reason) purpose e = absurd cc

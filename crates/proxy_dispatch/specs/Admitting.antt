@@ -1,6 +1,6 @@
 -- Which requests may open calls (RFC 3261 section 12.2).
 use Rattle.std.specs.Prelude.{ℕ, Bool, List, Option, Some, None}
-use Rattle.sip_text.specs.declared.needed.Needed.TheVariants.{To}
+use Rattle.sip_text.specs.declared.needed.MandatoryHeader.TheVariants.{To}
 use Rattle.sip_text.specs.Fields.{value_of}
 use Rattle.sip_text.specs.Tag.{tag_in}
 use Rattle.sip_text.specs.Text.{MessageText}

@@ -2,7 +2,7 @@
 use Rattle.std.specs.Prelude.{Bool, true, false, ◌&&◌, Option, Some, Result, Ok, Err, is_none}
 use Rattle.sip_text.specs.declared.method.Method.{Method}
 use Rattle.sip_text.specs.declared.method.Method.TheVariants as methods
-use Rattle.sip_text.specs.declared.needed.Needed.TheVariants.{To}
+use Rattle.sip_text.specs.declared.needed.MandatoryHeader.TheVariants.{To}
 use Rattle.sip_text.specs.Fields.{value_of}
 use Rattle.sip_text.specs.Method.{known_method}
 use Rattle.sip_text.specs.Tag.{tag_in}

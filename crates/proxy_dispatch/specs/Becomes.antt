@@ -28,8 +28,8 @@ use Rattle.call_routing.specs.Opening.{Opens, Refuses}
 use Rattle.fork_call.specs.Takes.{Takes}
 use Rattle.proxy_dispatch.specs.declared.datagrams.Handled.{Handled}
 use Rattle.proxy_dispatch.specs.declared.datagrams.Handled.TheVariants.{Dropped, Absorbed, Answered, TurnedAway, Forwarded, Opened, Delivered}
-use Rattle.proxy_dispatch.specs.declared.purpose.Purpose.{Purpose}
-use Rattle.proxy_dispatch.specs.declared.purpose.Purpose.TheVariants.{Ack, Cancel, Opening}
+use Rattle.proxy_dispatch.specs.declared.purpose.RequestKind.{RequestKind}
+use Rattle.proxy_dispatch.specs.declared.purpose.RequestKind.TheVariants.{Ack, Cancel, Opening}
 use Rattle.proxy_dispatch.specs.Admitting.{Admits, opener_of}
 use Rattle.proxy_dispatch.specs.Asking.{asks_service}
 use Rattle.proxy_dispatch.specs.Looks.{Look, Found, Seen, Missed, Put, Spent}
@@ -159,7 +159,7 @@ NewBecomes admits setup m source now (Some key) looks handled sent =
     (admitted : Bool) × admits (opener_of m) admitted × AskedBecomes admitted setup m source now key looks handled sent
 
 -- by what it is for: a CANCEL of nothing that the proxy knows is answered 481 (section 9.2)
-abbrev pub UnknownBecomes : Admits → Setup → MessageText → Hop → ℕ → Purpose → List Look → Handled → Option Datagram → Type 0
+abbrev pub UnknownBecomes : Admits → Setup → MessageText → Hop → ℕ → RequestKind → List Look → Handled → Option Datagram → Type 0
 UnknownBecomes admits setup m source now Ack looks handled sent = (looks ≡ []) × AckBecomes setup m source handled sent
 UnknownBecomes admits setup m source now Cancel looks handled sent = (looks ≡ []) × IsAnswered m source own.CallDoesNotExist handled sent
 UnknownBecomes admits setup m source now Opening looks handled sent = NewBecomes admits setup m source now (request_key m) looks handled sent
@@ -172,11 +172,11 @@ LooksFor None number looks rest = (number ≡ None) × (looks ≡ rest)
 LooksFor (Some key) number looks rest = looks ≡ Found key number ∷ rest
 
 -- the call that is found by its key is given it (section 17.2.3)
-abbrev pub KeyBecomes : Admits → Setup → MessageText → Hop → ℕ → Purpose → Option ℕ → List Look → Handled → Option Datagram → Type 0
+abbrev pub KeyBecomes : Admits → Setup → MessageText → Hop → ℕ → RequestKind → Option ℕ → List Look → Handled → Option Datagram → Type 0
 KeyBecomes admits setup m source now purpose (Some number) looks handled sent = IsGiven number m source now looks handled sent
 KeyBecomes admits setup m source now purpose None looks handled sent = UnknownBecomes admits setup m source now purpose looks handled sent
 
-abbrev pub RequestBecomes : Admits → Setup → MessageText → Hop → ℕ → Purpose → List Look → Handled → Option Datagram → Type 0
+abbrev pub RequestBecomes : Admits → Setup → MessageText → Hop → ℕ → RequestKind → List Look → Handled → Option Datagram → Type 0
 RequestBecomes admits setup m source now purpose looks handled sent =
     (number : Option ℕ)
     × (rest : List Look)
@@ -185,7 +185,7 @@ RequestBecomes admits setup m source now purpose looks handled sent =
 
 -- ---- the whole
 
-abbrev pub BecomesBy : Admits → Setup → MessageText → Hop → ℕ → Option Purpose → List Look → Handled → Option Datagram → Type 0
+abbrev pub BecomesBy : Admits → Setup → MessageText → Hop → ℕ → Option RequestKind → List Look → Handled → Option Datagram → Type 0
 BecomesBy admits setup m source now None looks handled sent = ResponseBecomes setup m source now looks handled sent
 BecomesBy admits setup m source now (Some purpose) looks handled sent = RequestBecomes admits setup m source now purpose looks handled sent
 

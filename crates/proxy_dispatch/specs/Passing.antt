@@ -1,6 +1,6 @@
 -- Which ACKs are sent on without a call (RFC 3261 sections 16.3, 16.6 and 16.11).
 use Rattle.std.specs.Prelude.{◌≡◌, ◌⊎◌, ℕ, true, false, Option, Some, None, Ok}
-use Rattle.sip_text.specs.declared.needed.Needed.TheVariants.{To}
+use Rattle.sip_text.specs.declared.needed.MandatoryHeader.TheVariants.{To}
 use Rattle.sip_text.specs.Fields.{value_of}
 use Rattle.sip_text.specs.Tag.{tag_in}
 use Rattle.sip_text.specs.Text.{MessageText}

@@ -5,20 +5,20 @@ use Rattle.sip_text.specs.declared.method.Method.TheVariants as methods
 use Rattle.sip_text.specs.Method.{known_method}
 use Rattle.sip_text.specs.Text.{StartText}
 use Rattle.sip_text.specs.Reading.{Fault, Short}
-use Rattle.proxy_dispatch.specs.declared.purpose.Purpose.{Purpose}
-use Rattle.proxy_dispatch.specs.declared.purpose.Purpose.TheVariants.{Ack, Cancel, Opening}
+use Rattle.proxy_dispatch.specs.declared.purpose.RequestKind.{RequestKind}
+use Rattle.proxy_dispatch.specs.declared.purpose.RequestKind.TheVariants.{Ack, Cancel, Opening}
 
-abbrev pub purpose_by : Method → Purpose
+abbrev pub purpose_by : Method → RequestKind
 purpose_by methods.Ack = Ack
 purpose_by methods.Cancel = Cancel
 purpose_by _ = Opening
 
 -- that of a request; a response has none
-abbrev pub purpose_of : StartText → Option Purpose
+abbrev pub purpose_of : StartText → Option RequestKind
 purpose_of start = option_map purpose_by (known_method start)
 
 -- a response is not answered, and neither is an ACK (section 17.1.1.3)
-abbrev pub is_answered : Option Purpose → Bool
+abbrev pub is_answered : Option RequestKind → Bool
 is_answered None = false
 is_answered (Some Ack) = false
 is_answered (Some Cancel) = true

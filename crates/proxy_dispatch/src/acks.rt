@@ -15,7 +15,7 @@ use crate::datagrams::Handled;
 use crate::outcome::Outcome;
 use call_routing::admitted_target;
 use fork_call::{Cause, Datagram, Setup};
-use proxy_routing::{hop_by, is_domain, validate_request};
+use proxy_routing::{hop_by, is_responsible_for, validate_request};
 use sip_build::{own_tag, write_forwarded};
 use sip_route::{first_route, loop_key};
 use sip_text::Message;
@@ -100,7 +100,7 @@ fn going_on<A: Allocator + Clone>(
     ensures { IfOk result (λ sent. GoesOn setup.now request.now (seen_sent sent)) }
 {
     let uri = admitted_target(alloc.clone()?, request)?;
-    if is_domain(setup, &uri) {
+    if is_responsible_for(setup, &uri) {
         return Ok(None);
     }
     match hop_by(setup.has_streams(), first_route(request), &uri) {

@@ -20,7 +20,7 @@ ghost use Rattle.proxy_dispatch.specs.inner.Sent.{seen_sent};
 use crate::datagrams::Handled;
 use crate::outcome::Outcome;
 use fork_call::{Cause, Datagram, RequestRejection};
-use sip_build::{OwnStatus, stripping_keeps_answers, write_generated};
+use sip_build::{OwnStatus, stripping_keeps_answers, write_own_response};
 use sip_route::stripping_keeps_the_rest;
 use sip_text::{HeaderLine, Message};
 use sip_uri::Hop;
@@ -38,7 +38,7 @@ fn answer_text<A: Allocator>(
     ensures { IfOk result (λ text. text.items ≡ spelling (generated_of request.now status (view_lines further.now))) }
 {
     let mut text = Vec::new(alloc);
-    write_generated(request, status, further, &mut text)?;
+    write_own_response(request, status, further, &mut text)?;
     Ok(text)
 }
 
@@ -152,7 +152,7 @@ pub(crate) fn turned_away<A: Allocator + Clone>(
 }
 
 /// The status that tells why no call was opened (RFC 3261 section 16.3).
-fn status_of(fault: RequestRejection) -> OwnStatus
+fn rejection_status(fault: RequestRejection) -> OwnStatus
     requires { fault ≢ RequestRejection.NoMemory }
     ensures { status_of_fault fault ≡ Some (code_of result) }
 {
@@ -201,7 +201,7 @@ pub(crate) fn rejected<A: Allocator + Clone>(
 {
     stripping_keeps_answers();
     stripping_keeps_the_rest();
-    let status = status_of(fault);
+    let status = rejection_status(fault);
     let datagram = rejection_of(alloc, request, source, fault, status)?;
     Ok(Outcome::sends(Handled::Answered(status.code()), datagram))
 }

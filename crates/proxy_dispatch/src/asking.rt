@@ -7,7 +7,7 @@ ghost use Rattle.sip_uri.specs.Reading.{read_uri};
 ghost use Rattle.proxy_dispatch.specs.Asking.{asks_proxy, asks_service, is_options, is_proxy, is_proxy_if_read};
 
 use fork_call::Setup;
-use proxy_routing::is_domain;
+use proxy_routing::is_responsible_for;
 use sip_lex::cut_at;
 use sip_route::request_uri;
 use sip_text::{Message, Method};
@@ -28,7 +28,7 @@ fn is_options<A: Allocator>(message: &Message<A>) -> bool
 fn is_proxy<A: Allocator + Clone>(setup: &Setup<A>, uri: &SipUri<A>) -> bool
     ensures { result ≡ is_proxy setup.now uri.now }
 {
-    uri.user().is_none() && is_domain(setup, uri)
+    uri.user().is_none() && is_responsible_for(setup, uri)
 }
 
 /// Whether a text names a user where it spells a URI: an `@` stands behind its scheme. It takes no memory.

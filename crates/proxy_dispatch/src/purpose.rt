@@ -7,7 +7,7 @@ use std::alloc::Allocator;
 
 /// What a request is for.
 #[derive(Clone, Copy, PartialEq, Eq, Debug)]
-pub(crate) enum Purpose {
+pub(crate) enum RequestKind {
     /// The request acknowledges an answer (RFC 3261 section 17.1.1.3).
     Ack,
     /// The request cancels another one (RFC 3261 section 9).
@@ -17,18 +17,18 @@ pub(crate) enum Purpose {
 }
 
 /// What a request of that method is for.
-fn purpose_by(method: Method) -> Purpose
+fn purpose_by(method: Method) -> RequestKind
     ensures { result ≡ purpose_by method }
 {
     match method {
-        Method::Ack => Purpose::Ack,
-        Method::Cancel => Purpose::Cancel,
-        Method::Invite | Method::Options | Method::Other => Purpose::Opening,
+        Method::Ack => RequestKind::Ack,
+        Method::Cancel => RequestKind::Cancel,
+        Method::Invite | Method::Options | Method::Other => RequestKind::Opening,
     }
 }
 
 /// What a request is for; None for a response.
-pub(crate) fn purpose_of<A: Allocator>(message: &Message<A>) -> Option<Purpose>
+pub(crate) fn purpose_of<A: Allocator>(message: &Message<A>) -> Option<RequestKind>
     ensures { result ≡ purpose_of message.now.start }
 {
     match message.known_method() {
@@ -38,11 +38,11 @@ pub(crate) fn purpose_of<A: Allocator>(message: &Message<A>) -> Option<Purpose>
 }
 
 /// Whether the proxy answers a message of this purpose: a request other than an ACK.
-pub(crate) fn is_answered(purpose: Option<Purpose>) -> bool
+pub(crate) fn is_answered(purpose: Option<RequestKind>) -> bool
     ensures { result ≡ is_answered purpose }
 {
     match purpose {
-        None | Some(Purpose::Ack) => false,
-        Some(Purpose::Cancel | Purpose::Opening) => true,
+        None | Some(RequestKind::Ack) => false,
+        Some(RequestKind::Cancel | RequestKind::Opening) => true,
     }
 }

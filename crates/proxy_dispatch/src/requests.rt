@@ -7,7 +7,7 @@ ghost use Rattle.call_model.specs.Call.{numbered};
 ghost use Rattle.call_routing.specs.Opening.{Opens};
 ghost use Rattle.proxy_config.specs.Setup as spec;
 ghost use Rattle.sip_text.specs.Text.{MessageText};
-ghost use Rattle.proxy_dispatch.specs.declared.purpose.Purpose.TheVariants as purposes;
+ghost use Rattle.proxy_dispatch.specs.declared.purpose.RequestKind.TheVariants as purposes;
 ghost use Rattle.proxy_dispatch.specs.Asking.{asks_service};
 ghost use Rattle.proxy_dispatch.specs.Becomes.{AdmittedBecomes, NewBecomes, OpeningBecomes, RequestBecomes, UnknownBecomes};
 ghost use Rattle.proxy_dispatch.specs.Looks.{Look, shown, ShowsAll};
@@ -22,7 +22,7 @@ use crate::calls::SharedCalls;
 use crate::datagrams::Handled;
 use crate::delivery::deliver;
 use crate::outcome::Outcome;
-use crate::purpose::Purpose;
+use crate::purpose::RequestKind;
 use crate::received::ReceivedMessage;
 use call_table::PendingFault;
 use fork_call::{OpeningRequest, PendingCall, Setup, Unrouted};
@@ -169,7 +169,7 @@ fn unknown<A: Allocator + Clone, N: Admission, R: Wait>(
     admission: &N,
     key: Option<Vec<u8, A>>,
     received: ReceivedMessage<A>,
-    purpose: Purpose,
+    purpose: RequestKind,
 ) -> Result<Outcome<A>, AllocError>
     requires purpose { purpose_of received.message.start ≡ Some purpose }
     requires key { option_map (λ text. text.items) key ≡ request_key received.message }
@@ -178,14 +178,14 @@ fn unknown<A: Allocator + Clone, N: Admission, R: Wait>(
         looks outcome.handled (seen_sent outcome.datagram)) }
 {
     match purpose {
-        Purpose::Ack => acknowledged(received.alloc, setup, received.message, received.source),
-        Purpose::Cancel => answered(
+        RequestKind::Ack => acknowledged(received.alloc, setup, received.message, received.source),
+        RequestKind::Cancel => answered(
             received.alloc,
             received.message,
             received.source,
             OwnStatus::CallDoesNotExist,
         ),
-        Purpose::Opening => match key {
+        RequestKind::Opening => match key {
             Some(key) => asked(rt, table, setup, admission, key, received),
             None => answered(
                 received.alloc,
@@ -209,7 +209,7 @@ pub(crate) fn requested<A: Allocator + Clone, N: Admission, R: Wait>(
     setup: &Setup<A>,
     admission: &N,
     received: ReceivedMessage<A>,
-    purpose: Purpose,
+    purpose: RequestKind,
 ) -> Result<Outcome<A>, AllocError>
     requires { purpose_of received.message.start ≡ Some purpose }
     ensures { IfOk result (λ outcome. (looks : List Look) × ShowsAll shown table.old looks table.new

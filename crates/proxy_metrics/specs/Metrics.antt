@@ -2,21 +2,21 @@
 use Rattle.std.specs.Prelude.{ℕ, ◌+◌, ◌-◌, ◌^◌, min, List, [], ◌∷◌, ◌++◌, codes}
 use Rattle.std.specs.List.{flat_map}
 use Rattle.std.specs.Fmt.{decimal}
-use Rattle.proxy_metrics.specs.declared.metric.Kind.{Kind}
-use Rattle.proxy_metrics.specs.declared.metric.Kind.TheVariants as kind
+use Rattle.proxy_metrics.specs.declared.metric.MetricKind.{MetricKind}
+use Rattle.proxy_metrics.specs.declared.metric.MetricKind.TheVariants as kind
 use Rattle.proxy_metrics.specs.declared.metric.Metric.{Metric}
 use Rattle.proxy_metrics.specs.declared.family.Labelled.{Labelled}
 use Rattle.proxy_metrics.specs.declared.family.Family.{Family}
-use Rattle.proxy_metrics.specs.declared.histogram.Bucket.{Bucket}
+use Rattle.proxy_metrics.specs.declared.histogram.HistogramClass.{HistogramClass}
 use Rattle.proxy_metrics.specs.declared.histogram.Histogram.{Histogram}
 
-abbrev pub kind_text : Kind → List ℕ
+abbrev pub kind_text : MetricKind → List ℕ
 kind_text kind.Counter = codes "counter"
 kind_text kind.Gauge = codes "gauge"
 kind_text kind.Histogram = codes "histogram"
 
 -- of which kind a name is
-abbrev pub type_line : List ℕ → Kind → List ℕ
+abbrev pub type_line : List ℕ → MetricKind → List ℕ
 type_line name kind = codes "# TYPE " ++ (name ++ (32 ∷ (kind_text kind ++ 10 ∷ [])))
 
 -- what ends a line
@@ -59,11 +59,11 @@ abbrev pub bucket_line : List ℕ → ℕ → ℕ → List ℕ
 bucket_line name bound total = class_name name bound ++ number_end total
 
 -- each class with those before it
-abbrev pub buckets_text : List ℕ → ℕ → List Bucket → List ℕ
+abbrev pub buckets_text : List ℕ → ℕ → List HistogramClass → List ℕ
 buckets_text name before [] = []
 buckets_text name before (b ∷ bs) = bucket_line name b.bound (plus before b.count) ++ buckets_text name (plus before b.count) bs
 
-abbrev pub total_of : ℕ → List Bucket → ℕ
+abbrev pub total_of : ℕ → List HistogramClass → ℕ
 total_of before [] = before
 total_of before (b ∷ bs) = total_of (plus before b.count) bs
 

@@ -2,7 +2,7 @@
 ghost use Rattle.std.specs.Prelude.{◌≡◌, ◌++◌, OnOk};
 ghost use Rattle.proxy_metrics.specs.Metrics.{family_text, label_text, labelled_line, labelled_text};
 
-use crate::metric::{Kind, append_number, append_type};
+use crate::metric::{MetricKind, append_number, append_type};
 use std::alloc::{AllocError, Allocator};
 
 /// A value with what its label says. That text stands as it is: it has no quote, no backslash and no line feed.
@@ -16,7 +16,7 @@ pub struct Labelled<'a> {
 #[derive(Clone, Copy)]
 pub struct Family<'a> {
     pub name: &'a [u8],
-    pub kind: Kind,
+    pub kind: MetricKind,
     /// The name of the label.
     pub label: &'a [u8],
     pub values: &'a [Labelled<'a>],

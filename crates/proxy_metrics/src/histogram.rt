@@ -2,13 +2,13 @@
 ghost use Rattle.std.specs.Prelude.{◌≡◌, ◌≤◌, ◌<◌, ◌++◌, ℕ, IfOk, OnOk, length, slice_index};
 ghost use Rattle.proxy_metrics.specs.Metrics.{bucket_line, buckets_text, class_name, ends_text, histogram_text, plus, total_of};
 
-use crate::metric::{Kind, append_number, append_type, append_value};
+use crate::metric::{MetricKind, append_number, append_type, append_value};
 use sip_lex::append_decimal;
 use std::alloc::{AllocError, Allocator};
 
 /// A class of values: those that are at most `bound`, and greater than the bound before.
 #[derive(Clone, Copy)]
-pub struct Bucket {
+pub struct HistogramClass {
     pub bound: u64,
     pub count: u64,
 }
@@ -18,7 +18,7 @@ pub struct Bucket {
 pub struct Histogram<'a> {
     pub name: &'a [u8],
     /// The classes, by bounds that rise.
-    pub buckets: &'a [Bucket],
+    pub buckets: &'a [HistogramClass],
     /// How many values were greater than the last bound.
     pub beyond: u64,
     /// The sum of all values.
@@ -72,7 +72,7 @@ fn append_bucket<A: Allocator>(
 fn append_buckets<A: Allocator>(
     out: &mut Vec<u8, A>,
     name: &[u8],
-    buckets: &[Bucket],
+    buckets: &[HistogramClass],
 ) -> Result<u64, AllocError>
     ensures text { OnOk result (out.new.items ≡ out.old.items ++ buckets_text name.now 0 buckets.now) }
     ensures total { IfOk result (λ total. total ≡ total_of 0 buckets.now) }
@@ -121,7 +121,7 @@ pub fn append_histogram<A: Allocator>(
 ) -> Result<(), AllocError>
     ensures { OnOk result (out.new.items ≡ out.old.items ++ histogram_text histogram.now) }
 {
-    append_type(out, histogram.name, Kind::Histogram)?;
+    append_type(out, histogram.name, MetricKind::Histogram)?;
     let bounded = append_buckets(out, histogram.name, histogram.buckets)?;
     let all = all_of(bounded, histogram.beyond);
     append_ends(out, histogram.name, all, histogram.sum)?;

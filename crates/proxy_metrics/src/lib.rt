@@ -6,5 +6,5 @@ mod histogram;
 mod metric;
 
 pub use family::{Family, Labelled, append_family};
-pub use histogram::{Bucket, Histogram, append_histogram, class_of};
-pub use metric::{Kind, Metric, append_metrics};
+pub use histogram::{Histogram, HistogramClass, append_histogram, class_of};
+pub use metric::{Metric, MetricKind, append_metrics};

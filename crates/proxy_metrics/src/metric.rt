@@ -7,7 +7,7 @@ use std::alloc::{AllocError, Allocator};
 
 /// What a value is.
 #[derive(Clone, Copy, PartialEq, Eq, Debug)]
-pub enum Kind {
+pub enum MetricKind {
     /// It rises only.
     Counter,
     /// It rises and falls.
@@ -20,18 +20,18 @@ pub enum Kind {
 #[derive(Clone, Copy)]
 pub struct Metric<'a> {
     pub name: &'a [u8],
-    pub kind: Kind,
+    pub kind: MetricKind,
     pub value: u64,
 }
 
 /// The word of a kind.
-fn kind_text(kind: Kind) -> &'static [u8]
+fn kind_text(kind: MetricKind) -> &'static [u8]
     ensures { result.now ≡ kind_text kind }
 {
     match kind {
-        Kind::Counter => b"counter",
-        Kind::Gauge => b"gauge",
-        Kind::Histogram => b"histogram",
+        MetricKind::Counter => b"counter",
+        MetricKind::Gauge => b"gauge",
+        MetricKind::Histogram => b"histogram",
     }
 }
 
@@ -39,7 +39,7 @@ fn kind_text(kind: Kind) -> &'static [u8]
 pub(crate) fn append_type<A: Allocator>(
     out: &mut Vec<u8, A>,
     name: &[u8],
-    kind: Kind,
+    kind: MetricKind,
 ) -> Result<(), AllocError>
     ensures { OnOk result (out.new.items ≡ out.old.items ++ type_line name.now kind) }
 {

@@ -1,5 +1,5 @@
 -- A request that is well formed can be marked with its source.
-use Rattle.proxy_routing.proofs.Common.{◌≡◌, Bool, true, false, List, ℕ, zero, suc, Option, Some, Result, Ok, Err, refl, sym, subst, arith, ap, ◌∙◌, codes, ◌&&◌, list_all, MessageText, top_value, via_of, Hops, MayPass, hops_name}
+use Rattle.proxy_routing.proofs.Common.{◌≡◌, Bool, true, false, List, ℕ, zero, suc, Option, Some, Result, Ok, Err, refl, sym, subst, arith, ap, ◌∙◌, codes, ◌&&◌, list_all, MessageText, top_value, via_of, MaxForwards, MayPass, hops_name}
 use Rattle.proxy_routing.proofs.Common.{is_at_its_end, is_spent, is_well_formed, target_uri}
 use Rattle.std.specs.Prelude.{IfSome, IsOk, if◌then◌else◌}
 use Rattle.std.proofs.lemmas.Bool.{and_parts}
@@ -15,7 +15,7 @@ use Rattle.sip_route.specs.Loop.{request_uri}
 use Rattle.sip_via.specs.Received.{marked}
 use Rattle.sip_via.specs.ViaFaults.{refusal}
 use Rattle.sip_via.specs.ViaParts.{is_via}
-use Rattle.sip_route.specs.declared.hops.Hops.TheVariants.{Unsaid, Said, Wrong}
+use Rattle.sip_route.specs.declared.hops.MaxForwards.TheVariants.{Unsaid, Said, Wrong}
 use Rattle.sip_route.specs.Hops.{IsHops, hops_of}
 use Rattle.proxy_config.specs.Setup.{Setup}
 use Rattle.proxy_routing.specs.OwnRoutes.{without_own_routes}
@@ -77,7 +77,7 @@ pub fault_of_other_scheme : (m : MessageText) (text : List ℕ) (fault : Option 
 fault_of_other_scheme m text fault is named other =
     is ∙ ap (λ (t : List ℕ). fault_if_refused (read_uri t)) named ∙ ap fault_if_refused other
 
-passed : (hops : Hops) → are_hops hops ≡ true → is_spent hops ≡ false → MayPass hops
+passed : (hops : MaxForwards) → are_hops hops ≡ true → is_spent hops ≡ false → MayPass hops
 passed Unsaid e f = tt
 passed (Said zero) e f = absurd cc
 passed (Said (suc n)) e f = omega arith

@@ -14,8 +14,8 @@ use Rattle.sip_via.specs.BranchText.{cookie}
 use Rattle.sip_via.specs.Received.{marked}
 use Rattle.sip_via.specs.TopVia.{top_value}
 use Rattle.sip_via.specs.ViaParts.{ViaText, branch_of, or_empty, read_via}
-use Rattle.sip_route.specs.declared.hops.Hops.{Hops}
-use Rattle.sip_route.specs.declared.hops.Hops.TheVariants.{Unsaid, Said, Wrong}
+use Rattle.sip_route.specs.declared.hops.MaxForwards.{MaxForwards}
+use Rattle.sip_route.specs.declared.hops.MaxForwards.TheVariants.{Unsaid, Said, Wrong}
 use Rattle.sip_route.specs.Hops.{hops_of}
 use Rattle.sip_route.specs.Loop.{request_uri}
 use Rattle.sip_route.specs.LoopTest.{IsLoop}
@@ -37,7 +37,7 @@ abbrev pub has_via : MessageText → Bool
 has_via m = has_cookie (read_via (top_value m))
 
 -- its first Max-Forwards value, if it has one, is a number of one to three digits, at most 255 (section 20.22)
-abbrev pub are_hops : Hops → Bool
+abbrev pub are_hops : MaxForwards → Bool
 are_hops Unsaid = true
 are_hops (Said n) = true
 are_hops Wrong = false
@@ -58,7 +58,7 @@ is_well_formed m = has_via m && are_hops (hops_of m) && list_all is_route (route
 
 -- ---- the other checks (section 16.3 steps 2 to 5)
 
-abbrev pub is_spent : Hops → Bool
+abbrev pub is_spent : MaxForwards → Bool
 is_spent Unsaid = false
 is_spent (Said n) = n == 0
 is_spent Wrong = false

@@ -8,13 +8,13 @@ ghost use Rattle.proxy_routing.specs.Unrouted.{IfRejected, IsTurnedBack};
 ghost use Rattle.proxy_routing.specs.inner.Admission.{is_formed};
 ghost use Rattle.proxy_routing.specs.inner.Unrouted.{IsUnroutableAs};
 
-use crate::checks::{is_formed, is_of_another_scheme, is_spent};
+use crate::checks::{is_formed, is_max_forwards_zero, is_of_another_scheme};
 use crate::fault::RequestRejection;
 use crate::law::taking_own_routes_keeps_the_rest;
 use crate::own_routes::without_own_routes;
 use crate::unrouted::Unrouted;
 use proxy_config::Setup;
-use sip_route::{hops_of, is_loop, request_uri};
+use sip_route::{is_loop, max_forwards, request_uri};
 use sip_text::Message;
 use sip_uri::{Hop, uri_fault};
 use sip_via::{ViaFault, add_received, marking_keeps_the_rest, readable_is_marked};
@@ -55,7 +55,7 @@ fn routable<A: Allocator + Clone>(
     ensures hops { IfOk result (λ _. IfSome (first_value hops_name message.headers) IsHops) }
     ensures refused { IfErr result (IfRejected (IsUnroutableAs message source)) }
 {
-    let hops = hops_of(&message);
+    let hops = max_forwards(&message);
     let fault = uri_fault(request_uri(&message));
     if !is_formed(&message, hops, fault) {
         return Err(Unrouted::Rejected(RequestRejection::BadRequest, message));
@@ -64,7 +64,7 @@ fn routable<A: Allocator + Clone>(
     if is_of_another_scheme(fault) {
         return Err(Unrouted::Rejected(RequestRejection::Scheme, marked));
     }
-    if is_spent(hops) {
+    if is_max_forwards_zero(hops) {
         return Err(Unrouted::Rejected(RequestRejection::Hops, marked));
     }
     Ok(marked)

@@ -11,7 +11,7 @@ ghost use Rattle.sip_via.specs.ViaParts.{or_empty};
 ghost use Rattle.proxy_routing.specs.Admission.{are_hops, asks_extension, begins_with, is_spent, is_uri_or_other, target_uri};
 ghost use Rattle.proxy_routing.specs.inner.Admission.{is_formed, names_cookie};
 
-use sip_route::{Hops, routes_are_readable};
+use sip_route::{MaxForwards, routes_are_readable};
 use sip_text::Message;
 use sip_uri::UriFault;
 use sip_via::top_branch;
@@ -35,12 +35,12 @@ fn has_cookie<A: Allocator>(message: &Message<A>) -> bool
 }
 
 /// Whether Max-Forwards, where the request has one, can be read.
-fn are_hops(hops: Hops) -> bool
+fn is_max_forwards_readable(hops: MaxForwards) -> bool
     ensures { result ≡ are_hops hops }
 {
     match hops {
-        Hops::Unsaid | Hops::Said(_) => true,
-        Hops::Wrong => false,
+        MaxForwards::Unsaid | MaxForwards::Said(_) => true,
+        MaxForwards::Wrong => false,
     }
 }
 
@@ -66,23 +66,23 @@ fn is_uri_or_other(fault: Option<UriFault>) -> bool
 /// section 16.3 step 1).
 pub(crate) fn is_formed<A: Allocator>(
     message: &Message<A>,
-    hops: Hops,
+    hops: MaxForwards,
     fault: Option<UriFault>,
 ) -> bool
     requires hops { hops ≡ hops_of message.now }
     requires fault { fault ≡ fault_if_refused (target_uri message.now) }
     ensures { result ≡ is_formed message.now }
 {
-    has_cookie(message) && are_hops(hops) && routes_are_readable(message) && is_uri_or_other(fault)
+    has_cookie(message) && is_max_forwards_readable(hops) && routes_are_readable(message) && is_uri_or_other(fault)
 }
 
 /// Whether Max-Forwards is 0: no further proxy may pass the request on.
-pub(crate) fn is_spent(hops: Hops) -> bool
+pub(crate) fn is_max_forwards_zero(hops: MaxForwards) -> bool
     ensures { result ≡ is_spent hops }
 {
     match hops {
-        Hops::Unsaid | Hops::Wrong => false,
-        Hops::Said(n) => n == 0,
+        MaxForwards::Unsaid | MaxForwards::Wrong => false,
+        MaxForwards::Said(n) => n == 0,
     }
 }
 

@@ -120,7 +120,7 @@ fn is_own<A: Allocator + Clone>(setup: &Setup<A>, uri: &SipUri<A>) -> bool
 /// Whether the proxy is responsible for this URI (RFC 3261 section 16.5): its host is the proxy's domain, in upper or lower
 /// case, or the proxy's own address as it is written. Where the setup counts the port, a URI with the own address that leads
 /// to another port is that of another element; one without a port leads to 5060 (section 19.1.2).
-pub fn is_domain<A: Allocator + Clone>(setup: &Setup<A>, uri: &SipUri<A>) -> bool
+pub fn is_responsible_for<A: Allocator + Clone>(setup: &Setup<A>, uri: &SipUri<A>) -> bool
     ensures { result ≡ is_domain setup.now uri.now }
 {
     uri.host().eq_ignore_ascii_case(setup.domain()) || is_own(setup, uri)

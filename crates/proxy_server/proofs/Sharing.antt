@@ -11,9 +11,9 @@ use Rattle.call_table.proofs.laws.Crossing.{shelf_sync}
 use Rattle.fork_clock.proofs.laws.Crossing.{schedule_sync}
 use Rattle.proxy_config.proofs.laws.Crossing.{setup_sync}
 use Rattle.proxy_server.proofs.dropped.Dropped.TheSendSync as dropped
-use Rattle.proxy_server.proofs.socket.Socket.TheSendSync as socket
-use Rattle.proxy_server.specs.contracts.worker.Proxy as proxy
-use Rattle.proxy_server.specs.contracts.serving.Server as server
+use Rattle.proxy_server.proofs.socket.TurnSocket.TheSendSync as socket
+use Rattle.proxy_server.specs.contracts.worker.TurnProxy as proxy
+use Rattle.proxy_server.specs.contracts.serving.TurnServer as server
 
 proxy_sync : (h : clone.Ghosts heap_row.Denot) → IsSync (proxy.the_field heap_row ghosts h).row
 proxy_sync h = struct_sync (shape (proxy.the_type heap_row ghosts h))

@@ -3,7 +3,7 @@ ghost use Rattle.std.specs.Prelude.{◌≡◌, IfErr};
 ghost use Rattle.proxy_server.specs.inner.Faults.{IsSystemFault};
 
 use crate::fault::{ServeFault, of_system};
-use crate::worker::Proxy;
+use crate::worker::TurnProxy;
 use fork_call::Call;
 use fork_listing::{ListFault, listing};
 use std::alloc::Allocator;
@@ -24,7 +24,7 @@ fn append_listing<A: Allocator + Clone>(
 fn print_listing<A: Allocator + Clone, R: Wait, P: Print>(
     rt: &R,
     out: &P,
-    proxy: &Proxy<A>,
+    proxy: &TurnProxy<A>,
     number: u64,
 ) -> Result<(), ServeFault>
     ensures { IfErr result IsSystemFault }
@@ -51,7 +51,7 @@ fn print_listing<A: Allocator + Clone, R: Wait, P: Print>(
 pub(crate) fn print_listings<A: Allocator + Clone, R: Wait, P: Print>(
     rt: &R,
     out: &P,
-    proxy: &Proxy<A>,
+    proxy: &TurnProxy<A>,
 ) -> Result<(), ServeFault>
     ensures { IfErr result IsSystemFault }
 {

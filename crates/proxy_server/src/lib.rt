@@ -16,4 +16,4 @@ mod worker;
 pub use fault::ServeFault;
 pub use job::Job;
 pub use serving::{serve, serve_to};
-pub use turns::turns_asked;
+pub use turns::parse_serve_args;

@@ -5,7 +5,7 @@ ghost use Rattle.proxy_server.specs.inner.Faults.{IsSystemFault};
 use crate::fault::ServeFault;
 use crate::job::Job;
 use crate::socket::TURN;
-use crate::worker::Proxy;
+use crate::worker::TurnProxy;
 use log::Log;
 use sip_uri::Hop;
 use std::alloc::Allocator;
@@ -144,7 +144,7 @@ impl<'a, A: Allocator> Senders<'a, A> {
 /// Gives a datagram to a worker. Where that is not possible it is dropped, and counted.
 fn pass_on<R: Wait + Log, A: Allocator + Clone>(
     rt: &R,
-    proxy: &Proxy<A>,
+    proxy: &TurnProxy<A>,
     senders: &mut Senders<'_, A>,
     bytes: &[u8],
     source: Hop,
@@ -168,7 +168,7 @@ fn pass_on<R: Wait + Log, A: Allocator + Clone>(
 /// One turn: a receive of at most 10 ms, and then a tick where something is due. Says whether nothing came in these 10 ms.
 fn turn<R: Wait + Log, A: Allocator + Clone>(
     rt: &R,
-    proxy: &Proxy<A>,
+    proxy: &TurnProxy<A>,
     senders: &mut Senders<'_, A>,
     buffer: &mut [u8],
     now: u64,
@@ -192,7 +192,7 @@ fn turn<R: Wait + Log, A: Allocator + Clone>(
 /// `Socket` where a receive failed; no turn follows it.
 pub(crate) fn receive_all<R: Wait + Log, A: Allocator + Clone>(
     rt: &R,
-    proxy: &Proxy<A>,
+    proxy: &TurnProxy<A>,
     senders: &mut Senders<'_, A>,
     buffer: &mut [u8],
     turns: u32,

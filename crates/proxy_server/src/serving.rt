@@ -1,7 +1,7 @@
 //! A proxy serves: it is set up, its workers run for the turns that it was asked for, and what came of its calls is
 //! printed.
 ghost use denote.Param.Send.{IsSync};
-ghost use Rattle.proxy_server.specs.contracts.serving.Server.{the_row as server_row};
+ghost use Rattle.proxy_server.specs.contracts.serving.TurnServer.{the_row as server_row};
 ghost use Rattle.std.specs.Prelude.{◌↔◌, ◌<◌, length, IfErr, OnOk, IsErrOf};
 ghost use Rattle.proxy_server.specs.Faults.{most_text, IsFaultOf, Spells};
 ghost use Rattle.proxy_server.specs.inner.Faults.{IsSystemFault};
@@ -10,8 +10,8 @@ use crate::ending::print_listings;
 use crate::fault::{ServeFault, of_system};
 use crate::job::Job;
 use crate::receiver::{Running, Senders, receive_all};
-use crate::socket::Socket;
-use crate::worker::Proxy;
+use crate::socket::TurnSocket;
+use crate::worker::TurnProxy;
 use call_table::Inbox;
 use fork_call::Setup;
 use log::Log;
@@ -39,7 +39,7 @@ struct Receivers<'a> {
 }
 
 /// What the threads of a proxy do: the calling one receives, and three work.
-trait Crew {
+trait TurnThreads {
     /// Does the jobs that a worker is given, until the end job.
     fn do_jobs<R: Wait + Log>(&self, rt: &R, jobs: JobReceiver<'_, Job>);
 
@@ -56,11 +56,11 @@ trait Crew {
 
 /// A proxy over the heap's own allocator: that threads may share it is proved for this one.
 #[derive(Drop)]
-struct Server {
-    proxy: Proxy<Global>,
+struct TurnServer {
+    proxy: TurnProxy<Global>,
 }
 
-impl Crew for Server {
+impl TurnThreads for TurnServer {
     fn do_jobs<R: Wait + Log>(&self, rt: &R, jobs: JobReceiver<'_, Job>) {
         self.proxy.work(rt, jobs);
     }
@@ -77,7 +77,7 @@ impl Crew for Server {
 }
 
 /// Starts the workers, receives for `turns` turns, and ends the workers.
-fn run<C: Crew + Sync, R: Threads + Wait + Log + Sync>(
+fn run<C: TurnThreads + Sync, R: Threads + Wait + Log + Sync>(
     rt: &R,
     crew: &C,
     senders: &mut Senders<'_, Global>,
@@ -120,7 +120,7 @@ fn is_shared<T: Sync>(_: &T)
 {}
 
 /// Shows that threads may share a server.
-fn server_is_shared(server: &Server)
+fn server_is_shared(server: &TurnServer)
     ensures { IsSync server_row }
 {
     is_shared(server);
@@ -131,7 +131,7 @@ fn run_workers<R: Threads + Wait + Log + Sync, P: Print>(
     rt: &R,
     out: &P,
     alloc: Global,
-    server: &Server,
+    server: &TurnServer,
     turns: u32,
 ) -> Result<(), ServeFault>
     ensures { IfErr result IsSystemFault }
@@ -166,13 +166,13 @@ fn run_workers<R: Threads + Wait + Log + Sync, P: Print>(
 }
 
 /// Binds the address of a setup, and makes a proxy without a call.
-fn server_of<R: Net>(rt: &R, alloc: Global, setup: Setup) -> Result<Server, ServeFault>
+fn server_of<R: Net>(rt: &R, alloc: Global, setup: Setup) -> Result<TurnServer, ServeFault>
     ensures { IfErr result IsSystemFault }
 {
     let own = setup.own();
-    let socket = Socket::bind(rt, Hop::over_udp(own.addr, own.port))?;
-    let proxy = Proxy::new(alloc, setup, socket)?;
-    Ok(Server { proxy })
+    let socket = TurnSocket::bind(rt, Hop::over_udp(own.addr, own.port))?;
+    let proxy = TurnProxy::new(alloc, setup, socket)?;
+    Ok(TurnServer { proxy })
 }
 
 /// Tells where a proxy listens.
@@ -242,7 +242,7 @@ pub fn serve_to<R: Threads + Wait + Net + Log + Sync, P: Print>(
 ///
 /// # Errors
 ///
-/// In this order, but for want of memory: `TooLong` over 1,048,576 bytes; `Line` with the first malformed line; `Socket` where
+/// In this order, but for want of memory: `TooLong` over 1,048,576 bytes; `Line` with the first malformed line; `TurnSocket` where
 /// the address cannot be bound, a receive fails or standard output cannot be written. `NoMemory` where the allocator refuses
 /// while no worker runs yet or no longer; a datagram or a step that is refused memory in a worker is left, and the proxy serves on.
 pub fn serve<R: Threads + Wait + Net + Print + Log + Sync>(

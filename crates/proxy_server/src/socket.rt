@@ -20,7 +20,7 @@ const ROOM: i32 = 4_194_304;
 
 /// What became of a send.
 #[derive(Clone, Copy, PartialEq, Eq)]
-enum Sent {
+enum TurnSendOutcome {
     /// The system took the whole datagram.
     Whole,
     /// The system had no room in time, so the datagram is lost, as it may be on its way: a transaction sends its datagram
@@ -32,7 +32,7 @@ enum Sent {
 
 /// What came of a receive.
 #[derive(Clone, Copy)]
-pub(crate) struct Received {
+pub(crate) struct TurnReceived {
     /// A datagram's length and source.
     pub(crate) datagram: Option<(usize, Hop)>,
     /// Whether nothing came for as long as a receive waits.
@@ -41,7 +41,7 @@ pub(crate) struct Received {
 
 /// The UDP socket that all threads of a proxy share.
 #[derive(Drop)]
-pub(crate) struct Socket {
+pub(crate) struct TurnSocket {
     udp: UdpSocket,
 }
 
@@ -64,14 +64,14 @@ fn ask_for_room(udp: &UdpSocket) {
     let _ = unsafe { net::setsockopt(udp.as_raw_fd(), net::SOL_SOCKET, net::SO_RCVBUF, &value, 4) };
 }
 
-impl Socket {
+impl TurnSocket {
     /// A socket that receives at this address. No call on the socket waits by itself: a time limit of the socket would be
     /// counted in ticks of the system's clock, by which 10 ms may take 24.
     ///
     /// # Errors
     ///
-    /// `Socket` where the system refuses, `NoMemory` where it does so for want of memory.
-    pub(crate) fn bind<R: Net>(rt: &R, own: Hop) -> Result<Socket, ServeFault>
+    /// `TurnSocket` where the system refuses, `NoMemory` where it does so for want of memory.
+    pub(crate) fn bind<R: Net>(rt: &R, own: Hop) -> Result<TurnSocket, ServeFault>
         ensures { IfErr result IsSystemFault }
     {
         let udp = match UdpSocket::bind(rt, address(own)) {
@@ -82,14 +82,14 @@ impl Socket {
             return Err(of_system(error));
         }
         ask_for_room(&udp);
-        Ok(Socket { udp })
+        Ok(TurnSocket { udp })
     }
 
     /// Waits until a receive, or a send, would not have to wait, 10 ms at most. Says whether it is so; a signal ends the wait, too.
     ///
     /// # Errors
     ///
-    /// `Socket` where the system cannot wait.
+    /// `TurnSocket` where the system cannot wait.
     fn is_ready(&self, what: i16) -> Result<bool, ServeFault>
         ensures { IfErr result IsSystemFault }
     {
@@ -112,7 +112,7 @@ impl Socket {
     ///
     /// # Errors
     ///
-    /// `Socket` where the receive failed.
+    /// `TurnSocket` where the receive failed.
     fn take(&self, buffer: &mut [u8]) -> Result<Option<(usize, Hop)>, ServeFault>
         ensures fits { IfOk result (λ came. IfSome came (λ packet. packet.0 ≤ length buffer.new)) }
         ensures fault { IfErr result IsSystemFault }
@@ -134,48 +134,48 @@ impl Socket {
     ///
     /// # Errors
     ///
-    /// `Socket` where the receive failed.
-    pub(crate) fn receive(&self, buffer: &mut [u8]) -> Result<Received, ServeFault>
+    /// `TurnSocket` where the receive failed.
+    pub(crate) fn receive(&self, buffer: &mut [u8]) -> Result<TurnReceived, ServeFault>
         ensures fits { IfOk result
             (λ received. IfSome received.datagram (λ packet. packet.0 ≤ length buffer.new)) }
         ensures fault { IfErr result IsSystemFault }
     {
         let waiting = self.take(buffer)?;
         if waiting.is_some() {
-            return Ok(Received {
+            return Ok(TurnReceived {
                 datagram: waiting,
                 is_quiet: false,
             });
         }
         if !self.is_ready(net::POLLIN)? {
-            return Ok(Received {
+            return Ok(TurnReceived {
                 datagram: None,
                 is_quiet: true,
             });
         }
-        Ok(Received {
+        Ok(TurnReceived {
             datagram: self.take(buffer)?,
             is_quiet: false,
         })
     }
 
     /// Sends a datagram where the socket has room for it.
-    fn put(&self, bytes: &[u8], to: Hop) -> Sent {
+    fn put(&self, bytes: &[u8], to: Hop) -> TurnSendOutcome {
         match self.udp.send_to(bytes, address(to)) {
-            Ok(count) if count == bytes.len() => Sent::Whole,
-            Ok(_) => Sent::Refused,
+            Ok(count) if count == bytes.len() => TurnSendOutcome::Whole,
+            Ok(_) => TurnSendOutcome::Refused,
             Err(error) => match error.kind() {
-                ErrorKind::WouldBlock | ErrorKind::Interrupted => Sent::Lost,
-                _ => Sent::Refused,
+                ErrorKind::WouldBlock | ErrorKind::Interrupted => TurnSendOutcome::Lost,
+                _ => TurnSendOutcome::Refused,
             },
         }
     }
 
     /// Sends a datagram. Where the socket has no room it is tried once more as soon as it has, or in 10 ms: what waits for hosts that
     /// cannot be found fills the room of all others, and would else hold every worker for seconds.
-    fn send(&self, bytes: &[u8], to: Hop) -> Sent {
+    fn send(&self, bytes: &[u8], to: Hop) -> TurnSendOutcome {
         match self.put(bytes, to) {
-            Sent::Lost => {
+            TurnSendOutcome::Lost => {
                 let _ = self.is_ready(net::POLLOUT);
                 self.put(bytes, to)
             }
@@ -186,30 +186,30 @@ impl Socket {
 
 /// A worker's way to the socket, which counts the sends that the system refused.
 #[derive(Drop)]
-pub(crate) struct SocketPort<'a> {
-    socket: &'a Socket,
+pub(crate) struct TurnPort<'a> {
+    socket: &'a TurnSocket,
     failures: u64,
 }
 
-impl<'a> SocketPort<'a> {
+impl<'a> TurnPort<'a> {
     /// A way by which nothing was sent yet.
-    pub(crate) fn new(socket: &'a Socket) -> SocketPort<'a> {
-        SocketPort {
+    pub(crate) fn new(socket: &'a TurnSocket) -> TurnPort<'a> {
+        TurnPort {
             socket,
             failures: 0,
         }
     }
 }
 
-impl<'a> Port for SocketPort<'a> {
+impl<'a> Port for TurnPort<'a> {
     ghost count = { λ port. port.failures };
 
     fn send<A: Allocator>(&mut self, datagram: &Datagram<A>) -> bool {
         let sent = self.socket.send(datagram.bytes.as_slice(), datagram.to);
-        if sent == Sent::Refused {
+        if sent == TurnSendOutcome::Refused {
             self.failures = self.failures.saturating_add(1);
         }
-        sent == Sent::Whole
+        sent == TurnSendOutcome::Whole
     }
 
     fn failures(&self) -> u64 {

@@ -19,7 +19,7 @@ fn turns_of(digits: &[u8]) -> Option<u32>
 
 /// For how many turns the arguments ask to serve, the program's name among them: `serve`, and a number of 1 to 1,000,000 without
 /// leading zeros. None of any other arguments.
-pub fn turns_asked(words: &[String]) -> Option<u32>
+pub fn parse_serve_args(words: &[String]) -> Option<u32>
     ensures { result ≡ turns_asked (map string_bytes words.now) }
 {
     match words {

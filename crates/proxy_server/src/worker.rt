@@ -3,7 +3,7 @@ ghost use Rattle.std.specs.Prelude.{◌≡◌};
 
 use crate::dropped::Dropped;
 use crate::job::Job;
-use crate::socket::{Socket, SocketPort};
+use crate::socket::{TurnPort, TurnSocket};
 use call_table::Shelf;
 use fork_call::{Call, Port, Setup, carry};
 use fork_clock::Schedule;
@@ -31,10 +31,10 @@ fn hold_ready<A: Allocator>(alloc: A) {
 
 /// What the threads of a proxy share.
 #[derive(Drop)]
-pub(crate) struct Proxy<A: Allocator + Clone = Global> {
+pub(crate) struct TurnProxy<A: Allocator + Clone = Global> {
     pub(crate) alloc: A,
     pub(crate) setup: Setup<A>,
-    pub(crate) socket: Socket,
+    pub(crate) socket: TurnSocket,
     pub(crate) calls: Shelf<Call<A>, A>,
     pub(crate) schedule: Schedule<A>,
     /// Datagrams that a full inbox refused.
@@ -56,16 +56,16 @@ fn carried<A: Allocator + Clone, P: Port>(call: &mut Call<A>, port: &mut P, now:
     }
 }
 
-impl<A: Allocator + Clone> Proxy<A> {
+impl<A: Allocator + Clone> TurnProxy<A> {
     /// A proxy without a call.
     ///
     /// # Errors
     ///
     /// Only where the allocator refuses.
-    pub(crate) fn new(alloc: A, setup: Setup<A>, socket: Socket) -> Result<Proxy<A>, AllocError> {
+    pub(crate) fn new(alloc: A, setup: Setup<A>, socket: TurnSocket) -> Result<TurnProxy<A>, AllocError> {
         let calls = Shelf::new(alloc.clone()?)?;
         let schedule = Schedule::new(alloc.clone()?)?;
-        Ok(Proxy {
+        Ok(TurnProxy {
             alloc,
             setup,
             socket,
@@ -132,7 +132,7 @@ impl<A: Allocator + Clone> Proxy<A> {
 
     /// Does the jobs that a worker is given, until the end job.
     pub(crate) fn work<R: Wait + Log>(&self, rt: &R, mut jobs: JobReceiver<'_, Job<A>, A>) {
-        let mut port = SocketPort::new(&self.socket);
+        let mut port = TurnPort::new(&self.socket);
         let mut left = 0u32;
         let mut noted = 0u64;
         for _ in rt.forever() {

@@ -1,18 +1,18 @@
 -- What is written down of a call at its end.
 use Rattle.std.specs.Prelude.{◌≡◌, ℕ, List, Some, codes, unwrap_or}
 use Rattle.fork_model.specs.Log.{core_of}
-use Rattle.sip_text.specs.declared.needed.Needed.TheVariants.{CallId, From}
+use Rattle.sip_text.specs.declared.needed.MandatoryHeader.TheVariants.{CallId, From}
 use Rattle.sip_text.specs.Fields.{value_of}
 use Rattle.sip_text.specs.Text.{MessageText, method_in}
 use Rattle.sip_via.specs.ViaParts.{or_empty}
 use Rattle.sip_route.specs.Loop.{request_uri}
 use Rattle.call_model.specs.Call.{Call}
-use Rattle.call_journal.specs.declared.head.Head.{Head}
+use Rattle.call_journal.specs.declared.head.CallRecord.{CallRecord}
 use Rattle.call_journal.specs.declared.notes.Note.{Note}
 use Rattle.call_journal.specs.Block.{Journals}
 
 -- the line tells of the request that opened the call
-pub record IsHeadOf (number : ℕ) (request : MessageText) (time : ℕ) (h : Head) : Type 0 where
+pub record IsHeadOf (number : ℕ) (request : MessageText) (time : ℕ) (h : CallRecord) : Type 0 where
   pub time_is : h.time ≡ time
   pub number_is : h.number ≡ number
   pub method : h.method.now ≡ unwrap_or (method_in request.start) (codes "-")
@@ -22,4 +22,4 @@ pub record IsHeadOf (number : ℕ) (request : MessageText) (time : ℕ) (h : Hea
 
 abbrev pub WritesDown : Call → ℕ → List Note → List ℕ → List ℕ → Type 0
 WritesDown call time notes old new =
-    (h : Head) × IsHeadOf call.opened.number call.opened.request time h × Journals h (core_of call.log).table notes old new
+    (h : CallRecord) × IsHeadOf call.opened.number call.opened.request time h × Journals h (core_of call.log).table notes old new

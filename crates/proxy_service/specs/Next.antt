@@ -6,8 +6,8 @@ use Rattle.fork_model.specs.Log.{core_of}
 use Rattle.fork_model.specs.Table.{is_finished, is_succeeded}
 use Rattle.call_model.specs.Call.{Call}
 use Rattle.call_model.specs.Due.{IsLeastDue, IsOver}
-use Rattle.proxy_service.specs.declared.carrying.Next.{Next}
-use Rattle.proxy_service.specs.declared.carrying.Next.TheVariants as next
+use Rattle.proxy_service.specs.declared.carrying.NextStep.{NextStep}
+use Rattle.proxy_service.specs.declared.carrying.NextStep.TheVariants as next
 
 -- every branch has ended, and none was answered with a 2xx
 pub record HasFailed (core : Core) : Type 0 where
@@ -26,7 +26,7 @@ EndsBy core (Some status) = FailsWith core status
 EndsBy core None = HasFailed core → ⊥
 
 -- it waits for its least moment; or it is over, with the status with which it failed, if it did; or it is not over, and nothing is due
-abbrev pub IsNext : Call → Next → Type 0
+abbrev pub IsNext : Call → NextStep → Type 0
 IsNext call (next.At due) = IsLeastDue call (Some due)
 IsNext call (next.Over failure) = IsOver call × EndsBy (core_of call.log) failure
 IsNext call next.Nothing = IsLeastDue call None × (IsOver call → ⊥)

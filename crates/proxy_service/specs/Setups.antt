@@ -6,7 +6,7 @@ use Rattle.daemon_parts.specs.Faults.{IsFaultOf}
 use Rattle.daemon_parts.specs.declared.fault.DaemonFault.{DaemonFault}
 use Rattle.daemon_parts.specs.declared.fault.DaemonFault.TheVariants as fault
 use Rattle.daemon_parts.specs.declared.setup.Identity.{Identity}
-use Rattle.proxy_service.specs.declared.terms.Terms.{Terms}
+use Rattle.proxy_service.specs.declared.terms.RunSettings.{RunSettings}
 
 -- by it all own Route values at the front of a request are taken away, a 100 has the Timestamp of its request, and a CANCEL says why
 abbrev pub of_service : Setup → Setup
@@ -20,7 +20,7 @@ by_port_if own_port setup = if own_port then record setup { by_port = true } els
 abbrev pub recording_if : (records : Bool) → Setup → Setup
 recording_if records setup = if records then record setup { records = true } else setup
 
-abbrev pub service_setup : Terms → Setup → Setup
+abbrev pub service_setup : RunSettings → Setup → Setup
 service_setup terms setup = recording_if terms.records (by_port_if terms.own_port (of_service setup))
 
 -- a setup has the identity of the service
@@ -29,18 +29,18 @@ pub record IsOf (identity : Identity) (setup : Setup) : Type 0 where
   pub instance : setup.instance ≡ identity.instance
 
 -- the text spells it in a run with this number, and it is the service's
-pub record IsServiceSetup (terms : Terms) (text : List ℕ) (setup : Setup) : Type 0 where
+pub record IsServiceSetup (terms : RunSettings) (text : List ℕ) (setup : Setup) : Type 0 where
   pub read : Setup
   pub spelled : IsConfigured text terms.number read
   pub is_of : IsOf terms.identity read
   pub setup_is : setup ≡ service_setup terms read
 
 -- it spells another service's
-pub record IsOthers (terms : Terms) (text : List ℕ) : Type 0 where
+pub record IsOthers (terms : RunSettings) (text : List ℕ) : Type 0 where
   pub read : Setup
   pub spelled : IsConfigured text terms.number read
   pub is_other : IsOf terms.identity read → ⊥
 
-abbrev pub IsReloadFault : Terms → List ℕ → DaemonFault → Type 0
+abbrev pub IsReloadFault : RunSettings → List ℕ → DaemonFault → Type 0
 IsReloadFault terms text fault.Identity = IsOthers terms text
 IsReloadFault terms text other = IsFaultOf text terms.number other

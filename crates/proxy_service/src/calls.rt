@@ -29,7 +29,7 @@ pub(crate) enum Search {
 
 /// The calls that are kept, and when each is looked at.
 #[derive(Drop)]
-pub(crate) struct Calls<A: Allocator + Copy> {
+pub(crate) struct ServiceCalls<A: Allocator + Copy> {
     pub(crate) shelf: Shelf<Call<A>, A>,
     pub(crate) schedule: Schedule<A>,
     /// The calls that were counted as finished.
@@ -51,17 +51,17 @@ pub(crate) fn is_open<A: Allocator + Clone>(call: &mut Call<A>) -> bool
     !call.book().context().finished() || call.due() == Some(0)
 }
 
-impl<A: Allocator + Copy> Calls<A> {
+impl<A: Allocator + Copy> ServiceCalls<A> {
     /// No call is kept. Calls and their deadlines have their memory from `alloc`; what is noted of them, which is taken here, from `heap`.
     ///
     /// # Errors
     ///
     /// Only where the allocator refuses.
-    pub(crate) fn new(alloc: A, heap: Global) -> Result<Calls<A>, AllocError> {
+    pub(crate) fn new(alloc: A, heap: Global) -> Result<ServiceCalls<A>, AllocError> {
         let shelf = Shelf::new(alloc)?;
         let schedule = Schedule::new(alloc)?;
         let finished = Marks::new(heap)?;
-        Ok(Calls {
+        Ok(ServiceCalls {
             shelf,
             schedule,
             finished,

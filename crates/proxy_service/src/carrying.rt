@@ -38,7 +38,7 @@ fn step_from(moment: u64) -> u64
 
 /// What is to be done with a call next.
 #[derive(Clone, Copy, PartialEq, Eq, Debug)]
-pub(crate) enum Next {
+pub(crate) enum NextStep {
     /// It is carried at this moment, in milliseconds.
     At(u64),
     Nothing,
@@ -74,13 +74,13 @@ fn failure_of<A: Allocator + Clone>(call: &Call<A>) -> Option<u16>
 }
 
 /// What is to be done next with a call that was carried.
-fn next_of<A: Allocator + Clone>(call: &Call<A>) -> Next
+fn after_carry<A: Allocator + Clone>(call: &Call<A>) -> NextStep
     ensures { IsNext call.now result }
 {
     match call.due() {
-        Some(due) => Next::At(due),
-        None if call.over() => Next::Over(failure_of(call)),
-        None => Next::Nothing,
+        Some(due) => NextStep::At(due),
+        None if call.over() => NextStep::Over(failure_of(call)),
+        None => NextStep::Nothing,
     }
 }
 
@@ -127,11 +127,11 @@ impl<A: Allocator + Copy> Service<A> {
     }
 
     /// Has a call that no other thread looks at meanwhile carried when it is due next, and not before.
-    fn schedule_next<R: Wait>(&self, rt: &R, number: u64, next: Next, now: u64) {
+    fn schedule_next<R: Wait>(&self, rt: &R, number: u64, next: NextStep, now: u64) {
         let due = match next {
-            Next::At(due) if due > now => self.look_for(number, due),
-            Next::At(due) => due,
-            Next::Nothing | Next::Over(_) | Next::Refused => return,
+            NextStep::At(due) if due > now => self.look_for(number, due),
+            NextStep::At(due) => due,
+            NextStep::Nothing | NextStep::Over(_) | NextStep::Refused => return,
         };
         self.note_missed(self.calls.schedule.set(rt, number, due), now);
     }
@@ -156,11 +156,11 @@ impl<A: Allocator + Copy> Service<A> {
 
     /// What is to be done next with a call that was carried. Of one that is over the block for the journal is appended, if there is a
     /// journal, or nothing for want of memory.
-    fn left<R: Wait + Clock>(&self, rt: &R, call: &Call<A>, block: &mut Vec<u8, A>) -> Next
+    fn left<R: Wait + Clock>(&self, rt: &R, call: &Call<A>, block: &mut Vec<u8, A>) -> NextStep
         ensures { IsNext call.now result }
     {
-        let next = next_of(call);
-        if !matches!(next, Next::Over(_)) {
+        let next = after_carry(call);
+        if !matches!(next, NextStep::Over(_)) {
             self.count_finished(call);
         } else if self.terms.has_journal {
             let _ = self.calls.notes.append_block(rt, call, seconds(rt), block);
@@ -198,7 +198,7 @@ impl<A: Allocator + Copy> Service<A> {
         port: &mut P,
         visit: Visit,
         block: &mut Vec<u8, A>,
-    ) -> Next
+    ) -> NextStep
         ensures { call.new.opened.number ≡ call.old.opened.number }
     {
         let mut answers = AnswerPort {
@@ -212,8 +212,8 @@ impl<A: Allocator + Copy> Service<A> {
         self.note_call(rt, call, visit, answers.cancels);
         let next = match carried {
             Ok(carried) if !carried.more => self.left(rt, call, block),
-            Ok(_) => Next::At(now),
-            Err(AllocError) => Next::Refused,
+            Ok(_) => NextStep::At(now),
+            Err(AllocError) => NextStep::Refused,
         };
         self.schedule_next(rt, call.number(), next, now);
         next
@@ -266,14 +266,14 @@ impl<A: Allocator + Copy> Service<A> {
     }
 
     /// Does what is to be done next with the call of this number, beside looking at it when it is due.
-    fn follow<R: Wait>(&self, rt: &R, number: u64, next: Next, block: &[u8], now: u64) {
-        if !matches!(next, Next::Refused) {
+    fn follow<R: Wait>(&self, rt: &R, number: u64, next: NextStep, block: &[u8], now: u64) {
+        if !matches!(next, NextStep::Refused) {
             self.calls.refusals.clear(rt, number);
         }
         match next {
-            Next::Over(failure) => self.forget(rt, number, failure, block, now),
-            Next::Refused => self.carry_later(rt, number, now),
-            Next::At(_) | Next::Nothing => {}
+            NextStep::Over(failure) => self.forget(rt, number, failure, block, now),
+            NextStep::Refused => self.carry_later(rt, number, now),
+            NextStep::At(_) | NextStep::Nothing => {}
         }
     }
 

@@ -3,7 +3,7 @@ ghost use Rattle.std.specs.Prelude.{◌≡◌, OnErr, OnOk, codes, unwrap_or};
 ghost use Rattle.sip_text.specs.Text.{method_in};
 ghost use Rattle.proxy_service.specs.Journal.{WritesDown};
 
-use call_journal::{Head, Note, append_call};
+use call_journal::{CallRecord, Note, append_call};
 use fork_call::Call;
 use sip_route::request_uri;
 use sip_text::Message;
@@ -32,7 +32,7 @@ pub fn append_block<A: Allocator + Clone>(
     ensures err { OnErr result (block.new.items ≡ block.old.items) }
 {
     let request = call.request();
-    let head = Head {
+    let head = CallRecord {
         time,
         number: call.number(),
         method: method_of(request),

@@ -25,7 +25,7 @@ mod timing;
 mod walk;
 
 pub use journal::append_block;
-pub use lifetime::State;
+pub use lifetime::ServiceState;
 pub use queue::{Batch, JournalQueue};
 pub use service::Service;
-pub use terms::Terms;
+pub use terms::RunSettings;

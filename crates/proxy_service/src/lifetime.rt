@@ -11,7 +11,7 @@ const MILLIS: u64 = 1_000;
 
 /// Where a service stands.
 #[derive(Clone, Copy, PartialEq, Eq, Debug)]
-pub enum State {
+pub enum ServiceState {
     /// It opens calls.
     Serving,
     /// It opens none for requests outside of dialogs, and ends once nothing is open, or its time is over.
@@ -19,12 +19,12 @@ pub enum State {
     Ended,
 }
 
-impl State {
+impl ServiceState {
     fn code(self) -> u64 {
         match self {
-            State::Serving => 0,
-            State::Draining => 1,
-            State::Ended => 2,
+            ServiceState::Serving => 0,
+            ServiceState::Draining => 1,
+            ServiceState::Ended => 2,
         }
     }
 }
@@ -50,22 +50,22 @@ impl Lifetime {
     /// That of a service that serves.
     pub(crate) fn new() -> Lifetime {
         Lifetime {
-            state: AtomicU64::new(State::Serving.code()),
+            state: AtomicU64::new(ServiceState::Serving.code()),
             since: AtomicU64::new(NEVER),
             until: AtomicU64::new(NEVER),
             last_success: AtomicU64::new(NEVER),
         }
     }
 
-    pub(crate) fn is_in(&self, state: State) -> bool {
+    pub(crate) fn is_in(&self, state: ServiceState) -> bool {
         self.state.load(Ordering::SeqCst) == state.code()
     }
 
     /// Whether it opens calls for such requests: those within dialogs go on until the end.
     pub(crate) fn opens(&self, opener: Opener) -> bool {
         match opener {
-            Opener::OutsideDialog => self.is_in(State::Serving),
-            Opener::WithinDialog => !self.is_in(State::Ended),
+            Opener::OutsideDialog => self.is_in(ServiceState::Serving),
+            Opener::WithinDialog => !self.is_in(ServiceState::Ended),
         }
     }
 
@@ -77,20 +77,20 @@ impl Lifetime {
         let until = now.saturating_add(seconds.saturating_mul(MILLIS));
         self.until.store(until, Ordering::SeqCst);
         let _ = self.state.compare_exchange(
-            State::Serving.code(),
-            State::Draining.code(),
+            ServiceState::Serving.code(),
+            ServiceState::Draining.code(),
             Ordering::SeqCst,
             Ordering::SeqCst,
         );
     }
 
     pub(crate) fn end(&self) {
-        self.state.store(State::Ended.code(), Ordering::SeqCst);
+        self.state.store(ServiceState::Ended.code(), Ordering::SeqCst);
     }
 
     /// How the service drains, if it does.
     pub(crate) fn draining(&self, records: bool) -> Option<Draining> {
-        if !self.is_in(State::Draining) {
+        if !self.is_in(ServiceState::Draining) {
             return None;
         }
         Some(Draining {

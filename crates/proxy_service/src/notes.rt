@@ -6,7 +6,7 @@ ghost use Rattle.proxy_service.specs.Noting.{noted_at};
 
 use crate::journal::append_block;
 use crate::targets::{MOST_TARGETS, TargetSet};
-use call_journal::{Happening, Note, since};
+use call_journal::{Note, NotedEvent, since};
 use fork_book::Posted;
 use fork_call::Call;
 use fork_context::State;
@@ -99,7 +99,7 @@ impl CallNotes {
             if targets.has(target) && !self.cancelled.has(target) {
                 let note = Note {
                     target,
-                    what: Happening::Cancelled,
+                    what: NotedEvent::Cancelled,
                     at,
                 };
                 if self.notes.push(note).is_ok() {

@@ -33,11 +33,11 @@ pub struct Batch {
 
 /// Blocks that wait, at most 65,536 of them, of at most 16,777,216 bytes together.
 #[derive(Drop)]
-pub(crate) struct Queue {
+pub(crate) struct BlockQueue {
     waiting: Batch,
 }
 
-impl Model for Queue {
+impl Model for BlockQueue {
     ghost use Rattle.proxy_service.specs.Queue.{Waiting};
 
     ghost Value = { Waiting };
@@ -45,12 +45,12 @@ impl Model for Queue {
     ghost view = { λ q. record { text = q.waiting.text.items; blocks = q.waiting.blocks } };
 }
 
-impl Queue {
+impl BlockQueue {
     /// No block waits.
-    pub(crate) fn new(alloc: Global) -> Queue
+    pub(crate) fn new(alloc: Global) -> BlockQueue
         ensures { result ≡ nothing }
     {
-        Queue {
+        BlockQueue {
             waiting: Batch {
                 text: Vec::new(alloc),
                 blocks: 0,
@@ -113,7 +113,7 @@ impl Queue {
 #[derive(Drop)]
 pub struct JournalQueue {
     alloc: Global,
-    queue: Mutex<Queue>,
+    queue: Mutex<BlockQueue>,
     parker: Parker,
 }
 
@@ -122,7 +122,7 @@ impl JournalQueue {
     pub(crate) fn new(alloc: Global) -> JournalQueue {
         JournalQueue {
             alloc,
-            queue: Mutex::new(Queue::new(alloc)),
+            queue: Mutex::new(BlockQueue::new(alloc)),
             parker: Parker::new(),
         }
     }
@@ -131,7 +131,7 @@ impl JournalQueue {
     ///
     /// # Errors
     ///
-    /// Those of [`Queue::push`].
+    /// Those of [`BlockQueue::push`].
     pub(crate) fn push<R: Wait>(&self, rt: &R, block: &[u8]) -> Result<(), Unqueued> {
         let (pushed, was_empty) = {
             let mut queue = self.queue.lock(rt);

@@ -5,7 +5,7 @@ ghost use Rattle.daemon_parts.specs.Places.{with_taken};
 ghost use Rattle.proxy_service.specs.Quota.{limit};
 
 use crate::lifetime::Lifetime;
-use daemon_parts::Places;
+use daemon_parts::CallQuota;
 use proxy_dispatch::{Admission, Opener};
 use std::sync::atomic::{AtomicU64, Ordering};
 use std::sync::{Mutex, Wait};
@@ -14,7 +14,7 @@ use std::sync::{Mutex, Wait};
 const CLOSED: u64 = 1_000;
 
 /// Keeps a place for what such a request may open, and says whether there is one.
-fn keep_for(places: &mut Places, opener: Opener) -> bool
+fn keep_for(places: &mut CallQuota, opener: Opener) -> bool
     ensures kept { OnTrue result ((places.old.taken < limit opener places.old.most) × (places.new ≡ with_taken places.old (places.old.taken + 1))) }
     ensures full { OnFalse result ((limit opener places.old.most ≤ places.old.taken) × (places.new ≡ places.old)) }
 {
@@ -28,7 +28,7 @@ fn keep_for(places: &mut Places, opener: Opener) -> bool
 /// is forgotten.
 #[derive(Drop)]
 pub(crate) struct Quota {
-    places: Mutex<Places>,
+    places: Mutex<CallQuota>,
     /// How many requests are in work that have a place, and whose calls, if they open any, have no number yet.
     in_work: AtomicU64,
     /// Until when no call is opened, in milliseconds, since memory was refused.
@@ -39,7 +39,7 @@ impl Quota {
     /// So many places for calls that requests outside of dialogs open, and a tenth more for those within dialogs; all are free.
     pub(crate) fn new(most_calls: u64) -> Quota {
         Quota {
-            places: Mutex::new(Places::new(most_calls)),
+            places: Mutex::new(CallQuota::new(most_calls)),
             in_work: AtomicU64::new(0),
             closed_until: AtomicU64::new(0),
         }

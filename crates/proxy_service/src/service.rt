@@ -1,10 +1,10 @@
 //! What the threads of a service share.
-use crate::calls::Calls;
-use crate::lifetime::{Lifetime, State};
+use crate::calls::ServiceCalls;
+use crate::lifetime::{Lifetime, ServiceState};
 use crate::queue::JournalQueue;
 use crate::quota::Quota;
 use crate::setup::{service_setup, setup_of};
-use crate::terms::Terms;
+use crate::terms::RunSettings;
 use daemon_parts::{Counts, DaemonFault, Gauges};
 use fork_call::Setup;
 use fork_clock::Schedule;
@@ -24,8 +24,8 @@ pub struct Service<A: Allocator + Copy = Global> {
     /// The allocator of all else.
     pub(crate) heap: Global,
     pub(crate) setup: RwLock<Setup<A>>,
-    pub(crate) terms: Terms,
-    pub(crate) calls: Calls<A>,
+    pub(crate) terms: RunSettings,
+    pub(crate) calls: ServiceCalls<A>,
     pub(crate) quota: Quota,
     pub(crate) lifetime: Lifetime,
     pub(crate) journal: JournalQueue,
@@ -43,9 +43,9 @@ impl<A: Allocator + Copy> Service<A> {
         alloc: A,
         heap: Global,
         setup: Setup<A>,
-        terms: Terms,
+        terms: RunSettings,
     ) -> Result<Service<A>, AllocError> {
-        let calls = Calls::new(alloc, heap)?;
+        let calls = ServiceCalls::new(alloc, heap)?;
         Ok(Service {
             alloc,
             heap,
@@ -89,7 +89,7 @@ impl<A: Allocator + Copy> Service<A> {
 
     /// Whether it stands so at this moment: it serves until `drain` or `end` is called, drains until `next_look` or `end` ends it, and has
     /// ended from then on.
-    pub fn is_in(&self, state: State) -> bool {
+    pub fn is_in(&self, state: ServiceState) -> bool {
         self.lifetime.is_in(state)
     }
 

@@ -2,7 +2,7 @@
 ghost use Rattle.std.specs.Prelude.{◌≡◌, ◌↔◌, IfErr, IfOk, IsTrue};
 ghost use Rattle.proxy_service.specs.Setups.{IsOf, IsReloadFault, IsServiceSetup, by_port_if, recording_if, service_setup};
 
-use crate::terms::Terms;
+use crate::terms::RunSettings;
 use daemon_parts::{DaemonFault, Identity, read_text};
 use fork_call::Setup;
 use std::alloc::Allocator;
@@ -28,7 +28,7 @@ fn recording_if<A: Allocator + Clone>(setup: Setup<A>, records: bool) -> Setup<A
 /// A setup as a service goes by it: all Route values at the front of a request that lead to the proxy are taken away; a 100 has the
 /// Timestamp of its request, and a CANCEL says why; the own address counts as the domain with the own port alone, and a request that
 /// opens a dialog has a Record-Route line, where the terms say so.
-pub(crate) fn service_setup<A: Allocator + Clone>(setup: Setup<A>, terms: &Terms) -> Setup<A>
+pub(crate) fn service_setup<A: Allocator + Clone>(setup: Setup<A>, terms: &RunSettings) -> Setup<A>
     ensures { result ≡ service_setup terms.now setup }
 {
     let setup = setup.for_a_service().stamping().giving_reasons();
@@ -50,7 +50,7 @@ fn is_of<A: Allocator + Clone>(setup: &Setup<A>, identity: Identity) -> bool
 pub(crate) fn setup_of<A: Allocator + Clone>(
     alloc: A,
     text: &[u8],
-    terms: &Terms,
+    terms: &RunSettings,
 ) -> Result<Setup<A>, DaemonFault>
     ensures ok { IfOk result (IsServiceSetup terms.now text.now) }
     ensures fault { IfErr result (IsReloadFault terms.now text.now) }

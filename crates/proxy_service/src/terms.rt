@@ -3,7 +3,7 @@ use daemon_parts::Identity;
 
 /// What a service keeps to as long as it runs, whichever configuration it reads meanwhile.
 #[derive(Clone, Copy)]
-pub struct Terms {
+pub struct RunSettings {
     pub identity: Identity,
     /// The number of the run, for a configuration that has no line of an instance.
     pub number: u32,

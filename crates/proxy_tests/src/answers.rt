@@ -2,7 +2,7 @@
 use crate::holds::{holds, holds_of};
 use crate::play::{holds_answered, is_text};
 use fork_listing::CheckFault;
-use fork_program::{Command, ProgFault, append_found};
+use fork_program::{ProgFault, TextCommand, append_found};
 use std::alloc::{AllocError, Global};
 use std::test::Fail;
 
@@ -104,16 +104,16 @@ fn faults_are_printed_as_they_say(rt: HostRuntime) -> Result<(), Fail> {
 }
 
 /// Runs a command on a script; the status.
-fn run(alloc: Global, command: Command, out: &mut Vec<u8>) -> Result<u8, ProgFault> {
+fn run(alloc: Global, command: TextCommand, out: &mut Vec<u8>) -> Result<u8, ProgFault> {
     command.run(alloc, b"kind INVITE\ntarget 1000 a\n", out)
 }
 
 #[test]
 fn commands_append_their_answer(rt: HostRuntime) -> Result<(), Fail> {
     let mut out = Vec::new(rt.alloc());
-    let status = run(rt.alloc(), Command::Replay, &mut out)?;
+    let status = run(rt.alloc(), TextCommand::Replay, &mut out)?;
     holds(&rt, status == 0, "a replay ends with 0");
-    let status = run(rt.alloc(), Command::Check, &mut out)?;
+    let status = run(rt.alloc(), TextCommand::Check, &mut out)?;
     holds(&rt, status == 4, "a check of a script ends with 4");
     holds(
         &rt,

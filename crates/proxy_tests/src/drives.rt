@@ -4,8 +4,8 @@ use crate::limits::repeated;
 use crate::play::{answered, is_text, listing_in};
 use crate::replays::{BEST, CHALLENGES, CLOSING, CONTACTS};
 use fork_context::NewFault;
-use fork_drive::{Asked, drive_text};
-use fork_program::{Command, Fault, ProgFault};
+use fork_drive::{ProgramCommand, drive_text};
+use fork_program::{Fault, ProgFault, TextCommand};
 use std::alloc::{AllocError, Global};
 use std::process::Abort;
 use std::sync::Wait;
@@ -328,22 +328,22 @@ fn listings_of_runs_are_right(rt: HostRuntime) -> Result<(), Fail> {
 }
 
 /// What the arguments ask for.
-fn asked(alloc: Global, words: &[&str]) -> Result<Option<Asked>, AllocError> {
+fn asked(alloc: Global, words: &[&str]) -> Result<Option<ProgramCommand>, AllocError> {
     let mut list = Vec::new(alloc);
     for word in words {
         list.push(word.to_string(alloc)?)?;
     }
-    Ok(Asked::of(&list))
+    Ok(ProgramCommand::of(&list))
 }
 
 #[test]
 fn arguments_ask_for_commands(rt: HostRuntime) -> Result<(), Fail> {
     let drive = asked(rt.alloc(), &["forkproxy", "drive"])?;
-    holds(&rt, drive == Some(Asked::Drive), "drive runs workers");
+    holds(&rt, drive == Some(ProgramCommand::Drive), "drive runs workers");
     let alone = asked(rt.alloc(), &["forkproxy"])?;
     holds(
         &rt,
-        alone == Some(Asked::Alone(Command::Replay)),
+        alone == Some(ProgramCommand::Alone(TextCommand::Replay)),
         "no argument replays",
     );
     let more = asked(rt.alloc(), &["forkproxy", "drive", "drive"])?;
@@ -355,7 +355,7 @@ fn arguments_ask_for_commands(rt: HostRuntime) -> Result<(), Fail> {
 fn ran<R: Threads + Wait + Sync>(
     rt: &R,
     alloc: Global,
-    asked: Asked,
+    asked: ProgramCommand,
     out: &mut Vec<u8>,
 ) -> Result<u8, ProgFault> {
     asked.run(
@@ -369,9 +369,9 @@ fn ran<R: Threads + Wait + Sync>(
 #[test]
 fn what_is_asked_for_is_appended(rt: HostRuntime) -> Result<(), Fail> {
     let mut out = Vec::new(rt.alloc());
-    let status = ran(&rt, rt.alloc(), Asked::Drive, &mut out)?;
+    let status = ran(&rt, rt.alloc(), ProgramCommand::Drive, &mut out)?;
     holds(&rt, status == 0, "a run ends with 0");
-    let status = ran(&rt, rt.alloc(), Asked::Alone(Command::Check), &mut out)?;
+    let status = ran(&rt, rt.alloc(), ProgramCommand::Alone(TextCommand::Check), &mut out)?;
     holds(&rt, status == 4, "a check of a script ends with 4");
     holds(
         &rt,
@@ -388,7 +388,7 @@ fn what_is_asked_for_is_appended(rt: HostRuntime) -> Result<(), Fail> {
 fn passed_on<R: Threads + Wait + Sync>(
     rt: &R,
     alloc: Global,
-    asked: Asked,
+    asked: ProgramCommand,
     mut script: &[u8],
     out: &mut Vec<u8>,
 ) -> Result<u8, Fault> {
@@ -399,9 +399,9 @@ fn passed_on<R: Threads + Wait + Sync>(
 fn what_is_asked_for_goes_from_an_input_to_an_output(rt: HostRuntime) -> Result<(), Fail> {
     let mut out = Vec::new(rt.alloc());
     let script = b"kind INVITE\ntarget 1000 a\nworker\ncancel\n";
-    let status = passed_on(&rt, rt.alloc(), Asked::Drive, script, &mut out)?;
+    let status = passed_on(&rt, rt.alloc(), ProgramCommand::Drive, script, &mut out)?;
     holds(&rt, status == 0, "a run ends with 0");
-    let refused = passed_on(&rt, rt.alloc(), Asked::Drive, b"kind BYE\n", &mut out);
+    let refused = passed_on(&rt, rt.alloc(), ProgramCommand::Drive, b"kind BYE\n", &mut out);
     holds(
         &rt,
         refused == Err(Fault::Text(ProgFault::Line(1))),

@@ -1,7 +1,7 @@
 //! The scripts of `examples/`, and what the program prints of each.
 use crate::holds::holds_of;
-use fork_drive::Asked;
-use fork_program::{Command, Fault};
+use fork_drive::ProgramCommand;
+use fork_program::{Fault, TextCommand};
 use std::alloc::Global;
 use std::process::Abort;
 use std::sync::Wait;
@@ -64,7 +64,7 @@ const RUNS: [(&str, &str); 6] = [
 fn answered<R: Threads + Wait + Sync>(
     rt: &R,
     alloc: Global,
-    asked: Asked,
+    asked: ProgramCommand,
     script: &str,
 ) -> Result<(u8, Vec<u8>), Fault> {
     let mut input = script.as_bytes();
@@ -87,7 +87,7 @@ fn stands_there(table: &[(&str, &str)], script: &str, printed: &[u8]) -> bool {
 fn holds_printed<R: Threads + Wait + Sync + Abort>(
     rt: &R,
     alloc: Global,
-    asked: Asked,
+    asked: ProgramCommand,
     table: &[(&str, &str)],
 ) -> Result<(), Fault> {
     for (script, _) in table {
@@ -105,7 +105,7 @@ fn holds_printed<R: Threads + Wait + Sync + Abort>(
 
 #[test]
 fn examples_print_what_stands_beside_them(rt: HostRuntime) -> Result<(), Fail> {
-    holds_printed(&rt, rt.alloc(), Asked::Alone(Command::Replay), &REPLAYS)?;
-    holds_printed(&rt, rt.alloc(), Asked::Drive, &RUNS)?;
+    holds_printed(&rt, rt.alloc(), ProgramCommand::Alone(TextCommand::Replay), &REPLAYS)?;
+    holds_printed(&rt, rt.alloc(), ProgramCommand::Drive, &RUNS)?;
     Ok(())
 }

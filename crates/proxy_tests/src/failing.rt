@@ -1,7 +1,7 @@
 //! Inputs that fail or never end, and outputs that fail or take little.
 use crate::holds::{holds, holds_of};
-use fork_drive::Asked;
-use fork_program::{Command, Fault, MOST_TEXT, read_input};
+use fork_drive::ProgramCommand;
+use fork_program::{Fault, MOST_TEXT, TextCommand, read_input};
 use std::alloc::Global;
 use std::io::{self, ErrorKind, Read, Write};
 use std::sync::Wait;
@@ -91,7 +91,7 @@ fn replayed<R: Threads + Wait + Sync>(
         most,
         fails: writing,
     };
-    let status = match Asked::Alone(Command::Replay).answer(rt, alloc, &mut input, &mut output) {
+    let status = match ProgramCommand::Alone(TextCommand::Replay).answer(rt, alloc, &mut input, &mut output) {
         Ok(status) => status,
         Err(fault) => fault.status(),
     };
@@ -163,7 +163,7 @@ impl Read for Endless {
 fn ended<R: Threads + Wait + Sync>(
     rt: &R,
     alloc: Global,
-    asked: Asked,
+    asked: ProgramCommand,
     interrupted: bool,
 ) -> (u8, u32, bool) {
     let mut input = Endless {
@@ -186,9 +186,9 @@ fn ended<R: Threads + Wait + Sync>(
 #[test]
 fn a_command_gives_up_an_input_without_an_end(rt: HostRuntime) {
     for asked in [
-        Asked::Alone(Command::Replay),
-        Asked::Alone(Command::Check),
-        Asked::Drive,
+        ProgramCommand::Alone(TextCommand::Replay),
+        ProgramCommand::Alone(TextCommand::Check),
+        ProgramCommand::Drive,
     ] {
         holds(
             &rt,

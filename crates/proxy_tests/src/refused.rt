@@ -1,8 +1,8 @@
 //! The commands of the program, from an input to an output, where growths of memory are refused: `drive` runs in the memory
 //! that is refused, its workers too.
 use crate::holds::holds_of;
-use fork_drive::Asked;
-use fork_program::Command;
+use fork_drive::ProgramCommand;
+use fork_program::TextCommand;
 use refusing::Refusing;
 use std::alloc::Global;
 use std::io::{self, Write};
@@ -34,7 +34,7 @@ impl Write for Counting {
 /// refused alone.
 #[derive(Clone, Copy)]
 struct Case {
-    asked: Asked,
+    asked: ProgramCommand,
     text: &'static [u8],
     status: u8,
     bytes: usize,
@@ -135,7 +135,7 @@ const LISTING: &[u8] =
 #[test]
 fn what_is_refused_ends_with_3(rt: HostRuntime) {
     let drive = Case {
-        asked: Asked::Drive,
+        asked: ProgramCommand::Drive,
         text: WORKERS,
         status: 0,
         bytes: 242,
@@ -143,7 +143,7 @@ fn what_is_refused_ends_with_3(rt: HostRuntime) {
     };
     goes(&rt, rt.alloc(), drive, "drive");
     let replay = Case {
-        asked: Asked::Alone(Command::Replay),
+        asked: ProgramCommand::Alone(TextCommand::Replay),
         text: SCRIPT,
         status: 0,
         bytes: 207,
@@ -151,7 +151,7 @@ fn what_is_refused_ends_with_3(rt: HostRuntime) {
     };
     goes(&rt, rt.alloc(), replay, "replay");
     let check = Case {
-        asked: Asked::Alone(Command::Check),
+        asked: ProgramCommand::Alone(TextCommand::Check),
         text: LISTING,
         status: 0,
         bytes: 4,

@@ -1,5 +1,5 @@
 //! What a call comes to that makes a value.
-use refusing::{Answer, Heap};
+use refusing::{Attempt, Heap};
 
 /// Tells whether what a call makes is right.
 pub trait Judge<'a, T> {
@@ -12,10 +12,10 @@ pub fn judged<'a, T: Drop, F: PartialEq + Copy, J: Judge<'a, T>>(
     judge: &J,
     made: Result<T, F>,
     no_memory: F,
-) -> Answer {
+) -> Attempt {
     match made {
-        Ok(made) => Answer::of(judge.is_right(heap, &made)),
-        Err(fault) => Answer::failed(fault == no_memory),
+        Ok(made) => Attempt::of(judge.is_right(heap, &made)),
+        Err(fault) => Attempt::failed(fault == no_memory),
     }
 }
 
@@ -23,10 +23,10 @@ pub fn judged<'a, T: Drop, F: PartialEq + Copy, J: Judge<'a, T>>(
 pub fn answered<T: Drop, F: PartialEq + Copy>(
     made: Result<T, F>,
     no_memory: F,
-) -> Result<T, Answer> {
+) -> Result<T, Attempt> {
     match made {
         Ok(made) => Ok(made),
-        Err(fault) => Err(Answer::failed(fault == no_memory)),
+        Err(fault) => Err(Attempt::failed(fault == no_memory)),
     }
 }
 

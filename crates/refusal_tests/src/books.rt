@@ -7,7 +7,7 @@ use crate::texts::BOOK_SCRIPT;
 use fork_book::Book;
 use fork_context::{Choice, Event, Kind, NewFault, PostError, Up};
 use fork_rank::Rules;
-use refusing::{Answer, Heap, Play, Repeated, Stateless};
+use refusing::{Attempt, Heap, Play, Repeated, Stateless};
 use std::mem;
 
 /// The targets of the script.
@@ -20,7 +20,7 @@ const AIMS: Aims = Aims {
 const EVENTS: usize = 3;
 
 /// A book of an INVITE, or why there is none.
-type Made<'a> = Result<Book<Alloc<'a>>, Answer>;
+type Made<'a> = Result<Book<Alloc<'a>>, Attempt>;
 
 /// A book of an INVITE to the targets of the script is made.
 fn opened(heap: Heap<'_>) -> Made<'_> {
@@ -38,23 +38,23 @@ impl<'a> Judge<'a, Book<Alloc<'a>>> for Opening {
 }
 
 impl Stateless for Opening {
-    fn answer(&self, heap: Heap<'_>) -> Answer {
-        judged(heap, self, opened(heap), Answer::NoMemory)
+    fn answer(&self, heap: Heap<'_>) -> Attempt {
+        judged(heap, self, opened(heap), Attempt::NoMemory)
     }
 }
 
 /// The event is posted; where that is refused the history is as it was.
-fn posts<'a>(book: &mut Book<Alloc<'a>>, event: Event<Alloc<'a>>) -> Answer {
+fn posts<'a>(book: &mut Book<Alloc<'a>>, event: Event<Alloc<'a>>) -> Attempt {
     let before = book.history().len();
     match book.post(1, event) {
-        Ok(_) => Answer::Right,
+        Ok(_) => Attempt::Right,
         Err(PostError::NoMemory(event)) => {
             discard(event);
-            Answer::failed(book.history().len() == before)
+            Attempt::failed(book.history().len() == before)
         }
         Err(PostError::Full(event)) => {
             discard(event);
-            Answer::Wrong
+            Attempt::Wrong
         }
     }
 }
@@ -69,10 +69,10 @@ struct Booked<'a> {
 }
 
 impl Repeated for Booked<'_> {
-    fn attempt(&mut self) -> Answer {
+    fn attempt(&mut self) -> Attempt {
         match self.event.copy(&self.heap.scarce) {
             Ok(event) => posts(&mut self.book, event),
-            Err(_) => Answer::NoMemory,
+            Err(_) => Attempt::NoMemory,
         }
     }
 }

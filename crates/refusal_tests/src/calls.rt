@@ -13,13 +13,13 @@ use call_messages::{Sent, is_sent};
 use call_routing::is_openable;
 use fork_call::{Call, Cause, RequestRejection, Setup, SetupFault, Step, TakeFault, Taken, carry};
 use fork_context::Event;
-use refusing::{Answer, Heap, Play, Repeated, Stateless};
+use refusing::{Attempt, Heap, Play, Repeated, Stateless};
 use sip_text::Message;
 use sip_uri::Hop;
 use std::process::Abort;
 
 /// What a configuration says, or why that is not known.
-pub fn set_up<'a>(alloc: Alloc<'a>, text: &[u8]) -> Result<Setup<Alloc<'a>>, Answer> {
+pub fn set_up<'a>(alloc: Alloc<'a>, text: &[u8]) -> Result<Setup<Alloc<'a>>, Attempt> {
     answered(Setup::read(alloc, text), SetupFault::NoMemory)
 }
 
@@ -36,7 +36,7 @@ impl<'a> Judge<'a, Setup<Alloc<'a>>> for SettingUp {
 }
 
 impl Stateless for SettingUp {
-    fn answer(&self, heap: Heap<'_>) -> Answer {
+    fn answer(&self, heap: Heap<'_>) -> Attempt {
         let setup = Setup::read(heap.scarce, self.text);
         judged(heap, self, setup, SetupFault::NoMemory)
     }
@@ -50,7 +50,7 @@ struct Opening {
 }
 
 /// A call, or why there is none.
-type Opened<'a> = Result<Call<Alloc<'a>>, Answer>;
+type Opened<'a> = Result<Call<Alloc<'a>>, Attempt>;
 
 /// The call that this request opens.
 fn opened_by<'a>(
@@ -59,7 +59,7 @@ fn opened_by<'a>(
     request: Message<Alloc<'a>>,
 ) -> Opened<'a> {
     if !is_openable(&request) {
-        return Err(Answer::Wrong);
+        return Err(Attempt::Wrong);
     }
     let call = Call::open(heap.scarce, setup, 3, request, CALLER, 0);
     answered(call, RequestRejection::NoMemory)
@@ -69,7 +69,7 @@ fn opened_by<'a>(
 fn opened_with<'a>(heap: Heap<'a>, setup: &Setup<Alloc<'a>>, opening: Opening) -> Opened<'a> {
     match read(heap.ample, opening.request) {
         Ok(request) => opened_by(heap, setup, request),
-        Err(_) => Err(Answer::Wrong),
+        Err(_) => Err(Attempt::Wrong),
     }
 }
 
@@ -78,7 +78,7 @@ fn opened(heap: Heap<'_>, opening: Opening) -> Opened<'_> {
     let setup = set_up(heap.ample, opening.setup);
     let opened = match &setup {
         Ok(setup) => opened_with(heap, setup, opening),
-        Err(_) => Err(Answer::Wrong),
+        Err(_) => Err(Attempt::Wrong),
     };
     discard(setup);
     opened
@@ -91,8 +91,8 @@ impl<'a> Judge<'a, Call<Alloc<'a>>> for Opening {
 }
 
 impl Stateless for Opening {
-    fn answer(&self, heap: Heap<'_>) -> Answer {
-        judged(heap, self, opened(heap, *self), Answer::NoMemory)
+    fn answer(&self, heap: Heap<'_>) -> Attempt {
+        judged(heap, self, opened(heap, *self), Attempt::NoMemory)
     }
 }
 
@@ -133,10 +133,10 @@ fn is_taken<'a>(
     from: Hop,
     now: u64,
     wanted: Result<Taken, TakeFault>,
-) -> Answer {
+) -> Attempt {
     match call.take(message, from, now) {
-        Err(TakeFault::NoMemory) => Answer::NoMemory,
-        taken => Answer::of(taken == wanted),
+        Err(TakeFault::NoMemory) => Attempt::NoMemory,
+        taken => Attempt::of(taken == wanted),
     }
 }
 
@@ -174,10 +174,10 @@ pub struct Playing<'a> {
 
 impl Playing<'_> {
     /// The message of this text comes: whether it is taken so.
-    fn takes(&mut self, from: Hop, text: &[u8], wanted: Result<Taken, TakeFault>) -> Answer {
+    fn takes(&mut self, from: Hop, text: &[u8], wanted: Result<Taken, TakeFault>) -> Attempt {
         match read(self.heap.ample, text) {
             Ok(message) => is_taken(&mut self.call, message, from, self.now, wanted),
-            Err(_) => Answer::Wrong,
+            Err(_) => Attempt::Wrong,
         }
     }
 
@@ -192,37 +192,37 @@ impl Playing<'_> {
     }
 
     /// The next thing that is due: whether it is what the turn says.
-    fn pumps(&mut self) -> Answer {
+    fn pumps(&mut self) -> Attempt {
         match self.call.pump(self.now) {
-            Ok(step) => Answer::of(is_right(&self.call, &step, self.turn)),
-            Err(_) => Answer::NoMemory,
+            Ok(step) => Attempt::of(is_right(&self.call, &step, self.turn)),
+            Err(_) => Attempt::NoMemory,
         }
     }
 
     /// A datagram of this cause could not be sent.
-    fn fails(&mut self, cause: Cause) -> Answer {
+    fn fails(&mut self, cause: Cause) -> Attempt {
         if self.call.failed(cause, self.now).is_ok() {
-            Answer::Right
+            Attempt::Right
         } else {
-            Answer::NoMemory
+            Attempt::NoMemory
         }
     }
 
     /// The call is carried: whether what it was to send was sent, and its book says what was lost.
-    fn carries(&mut self) -> Answer {
+    fn carries(&mut self) -> Attempt {
         self.port.begins(faulted(&self.call));
         match carry(&mut self.call, &mut self.port, self.now) {
             Ok(carried) => {
                 let is_done = self.port.is_done(carried);
-                Answer::of(is_done && faulted(&self.call) == self.port.lost_branch())
+                Attempt::of(is_done && faulted(&self.call) == self.port.lost_branch())
             }
-            Err(_) => Answer::NoMemory,
+            Err(_) => Attempt::NoMemory,
         }
     }
 }
 
 impl Repeated for Playing<'_> {
-    fn attempt(&mut self) -> Answer {
+    fn attempt(&mut self) -> Attempt {
         match self.turn {
             Turn::Takes(from, text, wanted) => self.takes(from, text, wanted),
             Turn::Fails(cause) => self.fails(cause),

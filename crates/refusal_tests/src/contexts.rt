@@ -10,11 +10,11 @@ use crate::texts::{
 use fork_context::{Challenge, Choice, Context, Event, Kind, NewFault, PostError, Reply, Up};
 use fork_listing::{ListFault, listing};
 use fork_rank::Rules;
-use refusing::{Answer, Heap, Play, Repeated, Stateless};
+use refusing::{Attempt, Heap, Play, Repeated, Stateless};
 use std::mem;
 
 /// A context of an INVITE, or why there is none.
-type Made<'a> = Result<Context<Alloc<'a>>, Answer>;
+type Made<'a> = Result<Context<Alloc<'a>>, Attempt>;
 
 /// A context of an INVITE to these targets is made.
 fn opened(heap: Heap<'_>, aims: Aims) -> Made<'_> {
@@ -36,8 +36,8 @@ impl<'a> Judge<'a, Context<Alloc<'a>>> for Opening {
 }
 
 impl Stateless for Opening {
-    fn answer(&self, heap: Heap<'_>) -> Answer {
-        judged(heap, self, opened(heap, self.aims), Answer::NoMemory)
+    fn answer(&self, heap: Heap<'_>) -> Attempt {
+        judged(heap, self, opened(heap, self.aims), Attempt::NoMemory)
     }
 }
 
@@ -63,23 +63,23 @@ fn posts<'a>(
     fork: &mut Context<Alloc<'a>>,
     event: &mut Option<Event<Alloc<'a>>>,
     turn: Turn,
-) -> Answer {
+) -> Attempt {
     let Some(posted) = event.take() else {
-        return Answer::Wrong;
+        return Attempt::Wrong;
     };
     match fork.post(posted) {
         Ok(reply) => {
-            let answer = Answer::of(is_right(&reply, turn));
+            let answer = Attempt::of(is_right(&reply, turn));
             discard(reply);
             answer
         }
         Err(PostError::NoMemory(posted)) => {
             discard(mem::replace(event, Some(posted)));
-            Answer::NoMemory
+            Attempt::NoMemory
         }
         Err(PostError::Full(posted)) => {
             discard(posted);
-            Answer::Wrong
+            Attempt::Wrong
         }
     }
 }
@@ -91,11 +91,11 @@ fn adds_challenges<'a>(
     fork: &Context<Alloc<'a>>,
     challenges: &mut ChallengeList<'a>,
     count: usize,
-) -> Answer {
+) -> Attempt {
     if fork.challenges(challenges).is_ok() {
-        Answer::of(challenges.len() == count)
+        Attempt::of(challenges.len() == count)
     } else {
-        Answer::failed(challenges.is_empty())
+        Attempt::failed(challenges.is_empty())
     }
 }
 
@@ -103,10 +103,10 @@ fn lists<'a>(
     fork: &Context<Alloc<'a>>,
     text: &mut Vec<u8, Alloc<'a>>,
     wanted: &'static [u8],
-) -> Answer {
+) -> Attempt {
     match listing(fork, text) {
-        Ok(()) => Answer::of(text.as_slice() == wanted),
-        Err(fault) => Answer::failed(fault == ListFault::NoMemory && text.is_empty()),
+        Ok(()) => Attempt::of(text.as_slice() == wanted),
+        Err(fault) => Attempt::failed(fault == ListFault::NoMemory && text.is_empty()),
     }
 }
 
@@ -122,7 +122,7 @@ struct Forked<'a> {
 }
 
 impl Repeated for Forked<'_> {
-    fn attempt(&mut self) -> Answer {
+    fn attempt(&mut self) -> Attempt {
         match self.deed {
             Deed::Posts(turn) => posts(&mut self.fork, &mut self.event, turn),
             Deed::Challenges(count) => adds_challenges(&self.fork, &mut self.challenges, count),

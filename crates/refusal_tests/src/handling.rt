@@ -9,7 +9,7 @@ use call_messages::one_target::{ACK, CALLER, CANCEL, INVITE, OPTIONS, SETUP, TAR
 use call_table::Shelf;
 use fork_call::{Call, Datagram, Port, Setup, carry};
 use proxy_dispatch::{Handled, Received, SharedCalls, Unlimited, handle};
-use refusing::{Answer, Heap, Play, Repeated};
+use refusing::{Attempt, Heap, Play, Repeated};
 use sip_uri::Hop;
 use std::alloc::Allocator;
 use std::sync::Wait;
@@ -205,16 +205,16 @@ fn shows<R: Wait>(rt: &R, shelf: &Calls<'_>, port: &mut Counting, carries: bool)
 }
 
 /// Call 0 is carried.
-fn carries<R: Wait>(rt: &R, shelf: &Calls<'_>, port: &mut Counting) -> Answer {
+fn carries<R: Wait>(rt: &R, shelf: &Calls<'_>, port: &mut Counting) -> Attempt {
     match shows(rt, shelf, port, true) {
         Some(Shown { is_carried, .. }) => {
             if is_carried {
-                Answer::Right
+                Attempt::Right
             } else {
-                Answer::NoMemory
+                Attempt::NoMemory
             }
         }
-        None => Answer::Wrong,
+        None => Attempt::Wrong,
     }
 }
 
@@ -239,21 +239,21 @@ impl<R: Wait> Proxy<'_, '_, R> {
     }
 
     /// The datagram is handled; where that is refused nothing is sent, and the call is as it was, or not open.
-    fn handles(&mut self) -> Answer {
+    fn handles(&mut self) -> Attempt {
         let sends = self.port.sends;
         let before = shows(self.rt, self.shelf, &mut self.port, false);
         match self.handled() {
-            Some(handled) => Answer::of(handled == self.wanted),
+            Some(handled) => Attempt::of(handled == self.wanted),
             None => {
                 let after = shows(self.rt, self.shelf, &mut self.port, false);
-                Answer::failed(self.port.sends == sends && after == before)
+                Attempt::failed(self.port.sends == sends && after == before)
             }
         }
     }
 }
 
 impl<R: Wait> Repeated for Proxy<'_, '_, R> {
-    fn attempt(&mut self) -> Answer {
+    fn attempt(&mut self) -> Attempt {
         if self.carrying {
             carries(self.rt, self.shelf, &mut self.port)
         } else {

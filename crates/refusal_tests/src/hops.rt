@@ -4,17 +4,17 @@ ghost use Rattle.sip_text.specs.Name.{first_value};
 ghost use Rattle.sip_route.specs.Hops.{IsHops, MayPass, hops_name};
 
 use crate::sources::Alloc;
-use sip_route::{Hops, hops_of};
+use sip_route::{MaxForwards, max_forwards};
 use sip_text::Message;
 
 /// Whether a request that says this of hops may be forwarded.
-fn lets_pass(hops: Hops) -> bool
+fn lets_pass(hops: MaxForwards) -> bool
     ensures { IsTrue result → MayPass hops }
 {
     match hops {
-        Hops::Unsaid => true,
-        Hops::Said(more) => more >= 1,
-        Hops::Wrong => false,
+        MaxForwards::Unsaid => true,
+        MaxForwards::Said(more) => more >= 1,
+        MaxForwards::Wrong => false,
     }
 }
 
@@ -22,6 +22,6 @@ fn lets_pass(hops: Hops) -> bool
 pub fn has_hops(message: &Message<Alloc<'_>>) -> bool
     ensures { IsTrue result → IfSome (first_value hops_name message.now.headers) IsHops }
 {
-    let hops = hops_of(message);
+    let hops = max_forwards(message);
     lets_pass(hops)
 }

@@ -4,7 +4,7 @@ use crate::sources::Alloc;
 use crate::texts::{BEST_LISTING, LATE_LISTING};
 use bumpalo::Bump;
 use fork_listing::{CheckFault, Verdict, check};
-use refusing::{Answer, Heap, Play, Repeated};
+use refusing::{Attempt, Heap, Play, Repeated};
 
 /// A listing, and what a check of it finds.
 #[derive(Clone, Copy)]
@@ -45,14 +45,14 @@ struct Checking<'a> {
 }
 
 impl Repeated for Checking<'_> {
-    fn attempt(&mut self) -> Answer {
+    fn attempt(&mut self) -> Attempt {
         let found = check(&self.arena, self.listing.text);
         if self.arena.reset().is_err() {
-            return Answer::Wrong;
+            return Attempt::Wrong;
         }
         match found {
-            Ok(verdict) => Answer::of(is_found(&verdict, &self.listing)),
-            Err(fault) => Answer::failed(fault == CheckFault::NoMemory),
+            Ok(verdict) => Attempt::of(is_found(&verdict, &self.listing)),
+            Err(fault) => Attempt::failed(fault == CheckFault::NoMemory),
         }
     }
 }

@@ -8,7 +8,7 @@ use crate::plays::{calls, plays};
 use crate::sources::{
     Alloc, BRANCH, LONG, MOVED, OWN, REQUEST, ROUTED, SOURCE, Wanted, is_written_as, read, target,
 };
-use refusing::{Answer, Heap, Play, Repeated, Stateless};
+use refusing::{Attempt, Heap, Play, Repeated, Stateless};
 use sip_build::OwnStatus;
 use sip_message::{ack_of, cancel_of, forward, generated, mark_received, strip_route, upward};
 use sip_text::{Message, StartLine};
@@ -37,7 +37,7 @@ struct Case {
 }
 
 /// The response goes up with a contact that was kept.
-fn moved<'a>(heap: Heap<'a>, response: &Message<Alloc<'a>>, wanted: Wanted) -> Answer {
+fn moved<'a>(heap: Heap<'a>, response: &Message<Alloc<'a>>, wanted: Wanted) -> Attempt {
     let kept: [&[u8]; 1] = [b"<sip:d@192.0.2.7>"];
     judged(
         heap,
@@ -54,9 +54,9 @@ fn sent_along<'a>(
     response: &Message<Alloc<'a>>,
     target: &SipUri<Alloc<'a>>,
     case: Case,
-) -> Answer {
+) -> Attempt {
     if !has_hops(request) {
-        return Answer::Wrong;
+        return Attempt::Wrong;
     }
     let wanted = &case.wanted;
     match request.start() {
@@ -80,23 +80,23 @@ fn sent_along<'a>(
                 BuildFault::NoMemory,
             ),
         },
-        StartLine::Response { .. } => Answer::Wrong,
+        StartLine::Response { .. } => Attempt::Wrong,
     }
 }
 
-fn along<'a>(heap: Heap<'a>, request: &Message<Alloc<'a>>, case: Case) -> Answer {
+fn along<'a>(heap: Heap<'a>, request: &Message<Alloc<'a>>, case: Case) -> Attempt {
     let response = read(heap.ample, MOVED);
     let target = target(heap.ample);
     let answer = match (&response, &target) {
         (Ok(response), Ok(target)) => sent_along(heap, request, response, target, case),
-        _ => Answer::Wrong,
+        _ => Attempt::Wrong,
     };
     discard(response);
     discard(target);
     answer
 }
 
-fn made<'a>(heap: Heap<'a>, of: &Message<Alloc<'a>>, case: Case) -> Answer {
+fn made<'a>(heap: Heap<'a>, of: &Message<Alloc<'a>>, case: Case) -> Attempt {
     let wanted = &case.wanted;
     match case.making {
         Making::Marked => judged(
@@ -123,11 +123,11 @@ fn made<'a>(heap: Heap<'a>, of: &Message<Alloc<'a>>, case: Case) -> Answer {
 }
 
 impl Stateless for Case {
-    fn answer(&self, heap: Heap<'_>) -> Answer {
+    fn answer(&self, heap: Heap<'_>) -> Attempt {
         let of = read(heap.ample, self.of);
         let answer = match &of {
             Ok(of) => made(heap, of, *self),
-            Err(_) => Answer::Wrong,
+            Err(_) => Attempt::Wrong,
         };
         discard(of);
         answer
@@ -142,25 +142,25 @@ struct Marking<'a> {
     request: Option<Message<Alloc<'a>>>,
 }
 
-fn marked<'a>(heap: Heap<'a>, request: &mut Option<Message<Alloc<'a>>>) -> Answer {
+fn marked<'a>(heap: Heap<'a>, request: &mut Option<Message<Alloc<'a>>>) -> Attempt {
     let Some(message) = request.take() else {
-        return Answer::Wrong;
+        return Attempt::Wrong;
     };
     match add_received(heap.scarce, message, SOURCE) {
         Ok(message) => {
-            let answer = Answer::of(is_written_as(heap.ample, &message, LONG_MARKED));
+            let answer = Attempt::of(is_written_as(heap.ample, &message, LONG_MARKED));
             discard(message);
             answer
         }
         Err(ReceivedFault { message, fault }) => {
             discard(mem::replace(request, Some(message)));
-            Answer::failed(fault == ViaFault::NoMemory)
+            Attempt::failed(fault == ViaFault::NoMemory)
         }
     }
 }
 
 impl Repeated for Marking<'_> {
-    fn attempt(&mut self) -> Answer {
+    fn attempt(&mut self) -> Attempt {
         marked(self.heap, &mut self.request)
     }
 }

@@ -6,15 +6,15 @@ use crate::texts::{
     BEST_LISTING, BEST_PRINTED, BEST_SCRIPT, CHALLENGED_PRINTED, CHALLENGED_SCRIPT, MOVED_PRINTED,
     MOVED_SCRIPT, ONE_LISTING, WRONG_LISTING,
 };
-use fork_program::{Command, Fault, ProgFault, check_text, read_input, replay_text};
-use refusing::{Answer, Heap, Stateless};
+use fork_program::{Fault, ProgFault, TextCommand, check_text, read_input, replay_text};
+use refusing::{Attempt, Heap, Stateless};
 
 /// The call that answers a text.
 #[derive(Clone, Copy)]
 enum Program {
     ReplayText,
     CheckText,
-    Run(Command),
+    Run(TextCommand),
 }
 
 /// A call, its text, its exit status, and what it prints.
@@ -40,25 +40,25 @@ fn is_refusal(fault: ProgFault) -> bool {
 }
 
 /// What the case comes to; where it is refused nothing was printed.
-fn ended(case: Case, ended: Result<u8, ProgFault>, printed: &[u8]) -> Answer {
+fn ended(case: Case, ended: Result<u8, ProgFault>, printed: &[u8]) -> Attempt {
     match ended {
-        Ok(status) => Answer::of(status == case.status && printed == case.printed),
-        Err(fault) if is_refusal(fault) && printed.is_empty() => Answer::NoMemory,
-        Err(_) => Answer::Wrong,
+        Ok(status) => Attempt::of(status == case.status && printed == case.printed),
+        Err(fault) if is_refusal(fault) && printed.is_empty() => Attempt::NoMemory,
+        Err(_) => Attempt::Wrong,
     }
 }
 
 impl Stateless for Case {
-    fn answer(&self, heap: Heap<'_>) -> Answer {
+    fn answer(&self, heap: Heap<'_>) -> Attempt {
         let mut out = Vec::new(heap.scarce);
         let status = run(heap.scarce, *self, &mut out);
         ended(*self, status, &out)
     }
 }
 
-const REPLAY: Program = Program::Run(Command::Replay);
+const REPLAY: Program = Program::Run(TextCommand::Replay);
 
-const CHECK: Program = Program::Run(Command::Check);
+const CHECK: Program = Program::Run(TextCommand::Check);
 
 /// Calls, and how many of their growths are done without.
 const CASES: &[(Case, u64)] = &[
@@ -153,7 +153,7 @@ impl<'a> Judge<'a, Vec<u8, Alloc<'a>>> for Input {
 }
 
 impl Stateless for Input {
-    fn answer(&self, heap: Heap<'_>) -> Answer {
+    fn answer(&self, heap: Heap<'_>) -> Attempt {
         let mut input = BEST_SCRIPT;
         let text = read_input(heap.scarce, &mut input);
         judged(heap, self, text, Fault::Text(ProgFault::NoMemory))

@@ -2,7 +2,7 @@
 use crate::answers::{Judge, discard, judged};
 use crate::plays::calls;
 use crate::sources::{Alloc, REQUEST, Wanted, read, target};
-use refusing::{Answer, Heap, Stateless};
+use refusing::{Attempt, Heap, Stateless};
 use sip_uri::{Contact, SipUri, UriFault, read_contacts};
 use sip_via::{Via, ViaFault};
 use std::alloc::AllocError;
@@ -51,7 +51,7 @@ impl<'a> Judge<'a, Via<Alloc<'a>>> for Reading {
     }
 }
 
-fn requested(heap: Heap<'_>) -> Answer {
+fn requested(heap: Heap<'_>) -> Attempt {
     let uri = target(heap.ample);
     let answer = match &uri {
         Ok(uri) => judged(
@@ -60,17 +60,17 @@ fn requested(heap: Heap<'_>) -> Answer {
             uri.requested(heap.scarce),
             AllocError,
         ),
-        Err(_) => Answer::Wrong,
+        Err(_) => Attempt::Wrong,
     };
     discard(uri);
     answer
 }
 
 impl Stateless for Reading {
-    fn answer(&self, heap: Heap<'_>) -> Answer {
+    fn answer(&self, heap: Heap<'_>) -> Attempt {
         let alloc = heap.scarce;
         match self {
-            Reading::Uri => judged(heap, self, target(alloc), Answer::NoMemory),
+            Reading::Uri => judged(heap, self, target(alloc), Attempt::NoMemory),
             Reading::Requested => requested(heap),
             Reading::Contacts => {
                 judged(
@@ -82,7 +82,7 @@ impl Stateless for Reading {
             }
             Reading::Request => {
                 let wanted = Wanted { text: REQUEST };
-                judged(heap, &wanted, read(alloc, REQUEST), Answer::NoMemory)
+                judged(heap, &wanted, read(alloc, REQUEST), Attempt::NoMemory)
             }
             Reading::Via => judged(heap, self, Via::read(alloc, VIA), ViaFault::NoMemory),
         }

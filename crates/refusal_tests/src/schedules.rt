@@ -1,8 +1,8 @@
 //! Deadlines that are added while memory is refused.
 use crate::plays::{holds, plays};
 use crate::sources::Alloc;
-use fork_clock::{Epoch, Schedule, Watch};
-use refusing::{Answer, Heap, Play, Refusing, Repeated};
+use fork_clock::{Epoch, Schedule, ThreadClock};
+use refusing::{Attempt, Heap, Play, Refusing, Repeated};
 use std::sync::Wait;
 use std::test::Fail;
 
@@ -26,15 +26,15 @@ fn deadline_of(number: u64) -> u64 {
 }
 
 impl<R: Wait> Repeated for Adding<'_, '_, R> {
-    fn attempt(&mut self) -> Answer {
+    fn attempt(&mut self) -> Attempt {
         let added = self
             .schedule
             .add(self.rt, self.number, deadline_of(self.number));
         let is_due = self.schedule.is_due(0);
         let is_missed = self.schedule.take_missed();
         match added {
-            Ok(()) => Answer::of(!is_missed && !is_due),
-            Err(_) => Answer::failed(is_missed && is_due),
+            Ok(()) => Attempt::of(!is_missed && !is_due),
+            Err(_) => Attempt::failed(is_missed && is_due),
         }
     }
 }
@@ -83,7 +83,7 @@ fn who_missed_a_deadline_does_not_sleep_for_long(rt: HostRuntime) -> Result<(), 
     let heap = Refusing::new(rt.alloc());
     let epoch = Epoch::now(&rt).ok_or("no clock")?;
     let schedule = Schedule::new(&heap)?;
-    let mut watch = Watch::new(epoch);
+    let mut watch = ThreadClock::new(epoch);
     heap.refuse_from(1);
     let added = schedule.add(&rt, 1, LATE);
     holds(&rt, added.is_err(), "the deadline cannot be added");

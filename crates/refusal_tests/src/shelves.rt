@@ -5,7 +5,7 @@ use crate::answers::discard;
 use crate::plays::{calls, holds, plays};
 use crate::sources::Alloc;
 use call_table::{Inbox, InboxIn, InboxOut, Numbered, Removal, Shelf, ShelfFault};
-use refusing::{Answer, Heap, Play, Refusing, Repeated, Stateless, refused_once};
+use refusing::{Attempt, Heap, Play, Refusing, Repeated, Stateless, refused_once};
 use std::alloc::Global;
 use std::sync::Wait;
 
@@ -40,15 +40,15 @@ struct Putting<'s, 'a, R> {
 }
 
 impl<R: Wait> Repeated for Putting<'_, '_, R> {
-    fn attempt(&mut self) -> Answer {
+    fn attempt(&mut self) -> Attempt {
         let put: Result<u64, ShelfFault<u8>> = self
             .shelf
             .put(self.rt, self.key, |number| Ok(slot_of(number)));
         let keyed = self.shelf.keyed(self.rt, self.key);
         match put {
-            Ok(number) => Answer::of(number == self.number && keyed == Some(number)),
-            Err(ShelfFault::NoMemory) => Answer::failed(keyed.is_none()),
-            Err(_) => Answer::Wrong,
+            Ok(number) => Attempt::of(number == self.number && keyed == Some(number)),
+            Err(ShelfFault::NoMemory) => Attempt::failed(keyed.is_none()),
+            Err(_) => Attempt::Wrong,
         }
     }
 }
@@ -205,9 +205,9 @@ fn passes_one<R: Wait>(
 }
 
 /// What the inbox with these ends comes to.
-fn passes<R: Wait>(rt: &R, ends: Ends<'_>) -> Answer {
+fn passes<R: Wait>(rt: &R, ends: Ends<'_>) -> Attempt {
     let (mut giving, mut receiving) = ends;
-    Answer::of(passes_one(rt, &mut giving, &mut receiving))
+    Attempt::of(passes_one(rt, &mut giving, &mut receiving))
 }
 
 /// An inbox of numbers is made.
@@ -217,10 +217,10 @@ struct Queueing<'r, R> {
 }
 
 impl<R: Wait> Stateless for Queueing<'_, R> {
-    fn answer(&self, heap: Heap<'_>) -> Answer {
+    fn answer(&self, heap: Heap<'_>) -> Attempt {
         match Inbox::new(heap.scarce) {
             Ok(ends) => passes(self.rt, ends),
-            Err(_) => Answer::NoMemory,
+            Err(_) => Attempt::NoMemory,
         }
     }
 }

@@ -1,6 +1,6 @@
 //! Messages and a URI that are read, for calls that are made of them.
 use crate::answers::{Judge, answered, discard};
-use refusing::{Answer, Heap, Refusing};
+use refusing::{Attempt, Heap, Refusing};
 use sip_text::{Message, ReadFault};
 use sip_uri::{Hop, SipUri, Transport, UriFault};
 use sip_via::{BranchName, Own};
@@ -59,19 +59,19 @@ t: <sip:bob@example.com>;tag=2\r\ni: c1\r\nCSeq: 1 OPTIONS\r\nl: 0\r\n\r\n";
 const URI: &[u8] = b"sip:bob@192.0.2.4:5062;transport=udp;Method=INVITE?Subject=x";
 
 /// The message of this text, or what the call comes to that reads it.
-pub fn read<'a>(alloc: Alloc<'a>, text: &[u8]) -> Result<Message<Alloc<'a>>, Answer> {
+pub fn read<'a>(alloc: Alloc<'a>, text: &[u8]) -> Result<Message<Alloc<'a>>, Attempt> {
     match Message::read(alloc, text) {
         Ok(message) => Ok(message),
         Err(fault) => {
             let is_refused = matches!(fault, ReadFault::NoMemory);
             discard(fault);
-            Err(Answer::failed(is_refused))
+            Err(Attempt::failed(is_refused))
         }
     }
 }
 
 /// The URI of a target, or what the call comes to that reads it.
-pub fn target<'a>(alloc: Alloc<'a>) -> Result<SipUri<Alloc<'a>>, Answer> {
+pub fn target<'a>(alloc: Alloc<'a>) -> Result<SipUri<Alloc<'a>>, Attempt> {
     answered(SipUri::read(alloc, URI), UriFault::NoMemory)
 }
 

@@ -8,7 +8,7 @@ use crate::plays::calls;
 use crate::sources::Alloc;
 use fork_rank::{Rules, Status, groups};
 use fork_tree::{End, ForkTree, NewRows, RowRef, State};
-use refusing::{Answer, Heap, Stateless};
+use refusing::{Attempt, Heap, Stateless};
 use std::alloc::AllocError;
 
 /// What is made.
@@ -101,16 +101,16 @@ fn ended_rows() -> Result<[RowRef; 6], ()>
     ])
 }
 
-fn ended_made(heap: Heap<'_>) -> Answer {
+fn ended_made(heap: Heap<'_>) -> Attempt {
     let Ok(rows) = ended_rows() else {
-        return Answer::Wrong;
+        return Attempt::Wrong;
     };
     let made = ForkTree::build(heap.scarce, Rules::usual(), &rows);
     judged(heap, &Making::Ended, made, AllocError)
 }
 
 impl Stateless for Making {
-    fn answer(&self, heap: Heap<'_>) -> Answer {
+    fn answer(&self, heap: Heap<'_>) -> Attempt {
         let alloc = heap.scarce;
         match self {
             Making::Groups => judged(heap, self, groups(alloc, &[500, 1000, 500]), AllocError),

@@ -7,11 +7,8 @@ use crate::made_texts::{
 };
 use crate::plays::plays;
 use crate::sources::{Alloc, BRANCH, MOVED, OWN, REQUEST, read, target};
-use refusing::{Answer, Heap, Play, Repeated};
-use sip_build::{
-    OwnStatus, write_forwarded, write_forwarded_ack, write_forwarded_cancel, write_generated,
-    write_own_route, write_upward,
-};
+use refusing::{Attempt, Heap, Play, Repeated};
+use sip_build::{OwnStatus, write_forwarded, write_forwarded_ack, write_forwarded_cancel, write_forwarded_response, write_own_response, write_own_route};
 use sip_route::append_request_key;
 use sip_text::{Message, StartLine};
 use sip_uri::SipUri;
@@ -84,8 +81,8 @@ fn appends<'a>(
         Written::RequestUri | Written::TargetKey | Written::Branch => spells(target, what, out),
         Written::RequestKey => append_request_key(out, request).is_ok(),
         Written::Message => response.write(out).is_ok(),
-        Written::Generated => write_generated(request, OwnStatus::BadRequest, &[], out).is_ok(),
-        Written::Upward => write_upward(response, None, &[], out).is_ok(),
+        Written::Generated => write_own_response(request, OwnStatus::BadRequest, &[], out).is_ok(),
+        Written::Upward => write_forwarded_response(response, None, &[], out).is_ok(),
         Written::OwnRoute => write_own_route(OWN, out).is_ok(),
         _ => forwards(request, response, target, what, out),
     }
@@ -97,26 +94,26 @@ fn is_appended(out: &[u8], before: usize, text: &[u8]) -> bool {
 }
 
 /// What the call comes to; where it was refused, the text has to be as long as before.
-fn done(appended: bool, out: &[u8], before: usize, text: &[u8]) -> Answer {
+fn done(appended: bool, out: &[u8], before: usize, text: &[u8]) -> Attempt {
     if appended {
-        Answer::of(is_appended(out, before, text))
+        Attempt::of(is_appended(out, before, text))
     } else {
-        Answer::failed(out.len() == before)
+        Attempt::failed(out.len() == before)
     }
 }
 
 /// What something is appended of, and to.
 #[derive(Drop)]
 struct Appending<'a> {
-    request: Result<Message<Alloc<'a>>, Answer>,
-    response: Result<Message<Alloc<'a>>, Answer>,
-    target: Result<SipUri<Alloc<'a>>, Answer>,
+    request: Result<Message<Alloc<'a>>, Attempt>,
+    response: Result<Message<Alloc<'a>>, Attempt>,
+    target: Result<SipUri<Alloc<'a>>, Attempt>,
     case: Case,
     out: Vec<u8, Alloc<'a>>,
 }
 
 impl Repeated for Appending<'_> {
-    fn attempt(&mut self) -> Answer {
+    fn attempt(&mut self) -> Attempt {
         let Case { what, text } = self.case;
         let before = self.out.len();
         match (&self.request, &self.response, &self.target) {
@@ -124,7 +121,7 @@ impl Repeated for Appending<'_> {
                 let appended = appends(request, response, target, what, &mut self.out);
                 done(appended, &self.out, before, text)
             }
-            _ => Answer::Wrong,
+            _ => Attempt::Wrong,
         }
     }
 }

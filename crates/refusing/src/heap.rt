@@ -29,7 +29,7 @@ pub struct Heap<'a> {
 
 /// What a call answered while memory was refused.
 #[derive(Clone, Copy, PartialEq, Eq)]
-pub enum Answer {
+pub enum Attempt {
     /// What it answers with memory, and rightly.
     Right,
     /// That it was refused.
@@ -38,34 +38,34 @@ pub enum Answer {
     Wrong,
 }
 
-impl Answer {
+impl Attempt {
     /// The answer of a call whose result was looked at.
-    pub fn of(is_right: bool) -> Answer {
+    pub fn of(is_right: bool) -> Attempt {
         if is_right {
-            Answer::Right
+            Attempt::Right
         } else {
-            Answer::Wrong
+            Attempt::Wrong
         }
     }
 
     /// The answer of a call that failed, and said that it was refused or something else.
-    pub fn failed(is_refused: bool) -> Answer {
+    pub fn failed(is_refused: bool) -> Attempt {
         if is_refused {
-            Answer::NoMemory
+            Attempt::NoMemory
         } else {
-            Answer::Wrong
+            Attempt::Wrong
         }
     }
 }
 
 /// A call that can be made again where it was refused, on what it keeps.
 pub trait Repeated {
-    fn attempt(&mut self) -> Answer;
+    fn attempt(&mut self) -> Attempt;
 }
 
 /// A call that keeps nothing: where it is made again, it is given the same anew.
 pub trait Stateless {
-    fn answer(&self, heap: Heap<'_>) -> Answer;
+    fn answer(&self, heap: Heap<'_>) -> Attempt;
 }
 
 /// A use of calls.
@@ -82,7 +82,7 @@ struct Attempted<'c, 'a, C> {
 }
 
 impl<C: Stateless> Repeated for Attempted<'_, '_, C> {
-    fn attempt(&mut self) -> Answer {
+    fn attempt(&mut self) -> Attempt {
         self.call.answer(self.heap)
     }
 }
@@ -115,11 +115,11 @@ impl<'a> Heap<'a> {
     fn once<C: Repeated>(self, call: &mut C) -> bool {
         let before = self.scarce.refused();
         match call.attempt() {
-            Answer::Right => true,
-            Answer::Wrong => false,
-            Answer::NoMemory => {
+            Attempt::Right => true,
+            Attempt::Wrong => false,
+            Attempt::NoMemory => {
                 self.told.fetch_add(1, Ordering::SeqCst);
-                before < self.scarce.refused() && matches!(call.attempt(), Answer::Right)
+                before < self.scarce.refused() && matches!(call.attempt(), Attempt::Right)
             }
         }
     }
@@ -132,8 +132,8 @@ impl<'a> Heap<'a> {
             let is_refused = self.scarce.refused() > 0;
             self.scarce.refuse_none();
             match (answer, is_refused) {
-                (Answer::Right, false) => return true,
-                (Answer::NoMemory, true) => {
+                (Attempt::Right, false) => return true,
+                (Attempt::NoMemory, true) => {
                     self.told.fetch_add(1, Ordering::SeqCst);
                 }
                 _ => return false,

@@ -5,7 +5,5 @@
 pub mod heap;
 pub mod refusing;
 
-pub use heap::{
-    Answer, Heap, Play, Repeated, Single, Stateless, refused_always, refused_never, refused_once,
-};
+pub use heap::{Attempt, Heap, Play, Repeated, Single, Stateless, refused_always, refused_never, refused_once};
 pub use refusing::Refusing;

@@ -9,7 +9,7 @@ use Rattle.authentication.specs.declared.domain.Domain.{Domain}
 use Rattle.authentication.specs.Answer.{Answer}
 use Rattle.authentication.specs.Realm.{Realm}
 use Rattle.authentication.specs.Standing.{Arrival, Standing, Stands, Unasked, Anonymous, Unusable, Stale, Wrong, Right, arrival_of}
-use Rattle.registrar.specs.declared.expirations.Expirations.{Expirations}
+use Rattle.registrar.specs.declared.expirations.AskedExpirations.{AskedExpirations}
 use Rattle.registrar.specs.declared.source.Source.{Source}
 use Rattle.registrar.specs.Asking.{IsAsking, IsAskingFor, IsAskingIf, Registers, Registration, Turned, asks_extension, is_users, registration_of, user_of}
 
@@ -26,7 +26,7 @@ users_own user Stale h = absurd cc
 users_own user (Wrong name) h = absurd cc
 users_own user (Right name) h = ap Right ((bytes_eq-Decides name user).0 h)
 
-module _ (domain : Domain) (realm : Option Realm) (expirations : Expirations) (source : Source) (m : MessageText) (r : Registration) (outside : source.inside ≡ false) where
+module _ (domain : Domain) (realm : Option Realm) (expirations : AskedExpirations) (source : Source) (m : MessageText) (r : Registration) (outside : source.inside ≡ false) where
   abbrev arrival : Arrival
   arrival = arrival_of m (address_text source.hop.addr) source.second
 

@@ -20,7 +20,7 @@ use Rattle.authentication.specs.Party.{uri_in}
 use Rattle.authentication.specs.Realm.{Realm}
 use Rattle.authentication.specs.Standing.{Standing, Stands, Unasked, Anonymous, Unusable, Stale, Wrong, Right, arrival_of}
 use Rattle.bindings.specs.Bindings.{RequestId}
-use Rattle.registrar.specs.declared.expirations.Expirations.{Expirations}
+use Rattle.registrar.specs.declared.expirations.AskedExpirations.{AskedExpirations}
 use Rattle.registrar.specs.declared.source.Source.{Source}
 use Rattle.registrar.specs.Contact.{Terms}
 use Rattle.registrar.specs.Contacts.{Contacts, contacts_of}
@@ -43,10 +43,10 @@ number_of (Some cseq) = cseq.number
 abbrev pub id_of : MessageText → RequestId
 id_of m = record { call_id = call_id m; cseq = number_of (message_cseq m.headers); key = or_empty (request_key m) }
 
-abbrev pub terms_of : Domain → Expirations → Source → MessageText → Terms
+abbrev pub terms_of : Domain → AskedExpirations → Source → MessageText → Terms
 terms_of domain expirations source m = record { source = source.hop; streams = domain.streams; expirations = expirations; expires = first_value (codes "expires") m.headers }
 
-abbrev pub registration_of : Domain → Expirations → Source → MessageText → (user : List ℕ) → Registration
+abbrev pub registration_of : Domain → AskedExpirations → Source → MessageText → (user : List ℕ) → Registration
 registration_of domain expirations source m user = record {
   user = user;
   id = id_of m;
@@ -89,23 +89,23 @@ pub data Asking : Type 0 where
   Turned : Answer → (noted : Option (List ℕ)) → Asking
   Registers : Registration → Asking
 
-abbrev pub asked_by : Domain → Option Realm → Expirations → Source → MessageText → Standing → (user : List ℕ) → Asking
+abbrev pub asked_by : Domain → Option Realm → AskedExpirations → Source → MessageText → Standing → (user : List ℕ) → Asking
 asked_by domain realm expirations source m standing user =
     if source.inside || is_users user standing then Registers (registration_of domain expirations source m user)
     else Turned (turned_away Server realm (address_text source.hop.addr) source.second standing) (noted standing)
 
 -- 404 where To names nobody; else the credentials decide, which are looked at where the source is not inside
-abbrev pub IsAskingFor : Domain → Option Realm → Expirations → Source → MessageText → Option (List ℕ) → Asking → Type 0
+abbrev pub IsAskingFor : Domain → Option Realm → AskedExpirations → Source → MessageText → Option (List ℕ) → Asking → Type 0
 IsAskingFor domain realm expirations source m None asking = asking ≡ Turned (plain NotFound) None
 IsAskingFor domain realm expirations source m (Some user) asking =
     (standing : Standing)
     × Stands (not source.inside) Server realm m (arrival_of m (address_text source.hop.addr) source.second) standing
     × (asking ≡ asked_by domain realm expirations source m standing user)
 
-abbrev pub IsAskingIf : (extension : Bool) → Domain → Option Realm → Expirations → Source → MessageText → Asking → Type 0
+abbrev pub IsAskingIf : (extension : Bool) → Domain → Option Realm → AskedExpirations → Source → MessageText → Asking → Type 0
 IsAskingIf true domain realm expirations source m asking = asking ≡ Turned (extension_answer m) None
 IsAskingIf false domain realm expirations source m asking = IsAskingFor domain realm expirations source m (user_of domain m) asking
 
 -- 420 comes first
-abbrev pub IsAsking : Domain → Option Realm → Expirations → Source → MessageText → Asking → Type 0
+abbrev pub IsAsking : Domain → Option Realm → AskedExpirations → Source → MessageText → Asking → Type 0
 IsAsking domain realm expirations source m asking = IsAskingIf (asks_extension m) domain realm expirations source m asking

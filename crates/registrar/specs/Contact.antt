@@ -19,7 +19,7 @@ use Rattle.sip_via.specs.Address.{address_text}
 use Rattle.authentication.specs.Form.{is_named, param_named}
 use Rattle.authentication.specs.Tail.{port_of_uri}
 use Rattle.bindings.specs.Bindings.{Asked}
-use Rattle.registrar.specs.declared.expirations.Expirations.{Expirations}
+use Rattle.registrar.specs.declared.expirations.AskedExpirations.{AskedExpirations}
 use Rattle.registrar.specs.Expirations.{time_by}
 
 -- what counts beside the contact itself
@@ -28,7 +28,7 @@ pub record Terms : Type 0 where
   pub source : Hop
   -- the proxy has streams
   pub streams : Bool
-  pub expirations : Expirations
+  pub expirations : AskedExpirations
   -- the value of Expires
   pub expires : Option (List ℕ)
 

@@ -15,11 +15,9 @@ ghost use Rattle.registrar.specs.SeenTerms.{seen_terms};
 
 use crate::contact::ContactTerms;
 use crate::contacts::{Contacts, contacts_of};
-use crate::expirations::Expirations;
+use crate::expirations::AskedExpirations;
 use crate::source::Source;
-use authentication::{
-    Answer, Challenger, Domain, Realm, Standing, is_of_domain, party_uri, standing_of, turned_away,
-};
+use authentication::{Challenger, Domain, OwnAnswer, RealmSecrets, Standing, is_of_domain, party_uri, standing_of, turned_away};
 use sip_build::OwnStatus;
 use sip_route::append_request_key;
 use sip_text::{Message, header_values_are_values};
@@ -32,8 +30,8 @@ use std::alloc::{AllocError, Allocator, Global};
 pub struct Registrar<'a, U: Allocator = Global> {
     pub domain: Domain<'a>,
     /// Where credentials are asked for.
-    pub realm: Option<&'a Realm<'a, U>>,
-    pub expirations: Expirations,
+    pub realm: Option<&'a RealmSecrets<'a, U>>,
+    pub expirations: AskedExpirations,
 }
 
 /// What a REGISTER request asks for whose sender may make it.
@@ -52,7 +50,7 @@ pub struct Registration<'a, A: Allocator = Global> {
 #[derive(Drop)]
 pub enum Asking<'a, A: Allocator = Global> {
     /// It is answered so, and, where there is a name, it is noted that wrong credentials came for it.
-    Turned(Answer<A>, Option<Vec<u8, A>>),
+    Turned(OwnAnswer<A>, Option<Vec<u8, A>>),
     Registers(Registration<'a, A>),
 }
 
@@ -76,12 +74,12 @@ fn asks_extension<M: Allocator>(message: &Message<M>) -> bool
 fn extension_answer<M: Allocator, A: Allocator + Clone>(
     alloc: &A,
     message: &Message<M>,
-) -> Result<Answer<A>, AllocError>
+) -> Result<OwnAnswer<A>, AllocError>
     ensures { IfOk result (λ answer. answer ≡ extension_answer message.now) }
 {
     header_values_are_values();
     message.is_message();
-    let mut answer = Answer::new(alloc.clone()?, OwnStatus::BadExtension);
+    let mut answer = OwnAnswer::new(alloc.clone()?, OwnStatus::BadExtension);
     let mut values = message.values(b"require");
     while let Some(value) = values.next() {
         let copy = Vec::from_slice(alloc.clone()?, value)?;
@@ -266,7 +264,7 @@ fn asking_for<'a, M: Allocator, A: Allocator + Clone, U: Allocator + Clone>(
     ensures { IfOk result (λ asked. IsAskingFor registrar.now.domain (realm_if_any registrar.now.realm) registrar.now.expirations source message.now (option_map (λ u. u.items) user) (seen_asking asked)) }
 {
     match user {
-        None => Ok(Asking::Turned(Answer::new(alloc.clone()?, OwnStatus::NotFound), None)),
+        None => Ok(Asking::Turned(OwnAnswer::new(alloc.clone()?, OwnStatus::NotFound), None)),
         Some(user) => asked_for_user(alloc, registrar, source, message, user),
     }
 }

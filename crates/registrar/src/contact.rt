@@ -10,12 +10,10 @@ ghost use Rattle.registrar.specs.Contact.{asked_at, asked_if_read, asked_of, ask
 ghost use Rattle.registrar.specs.SeenTerms.{seen_terms};
 
 use crate::asked::AskedContact;
-use crate::expirations::Expirations;
+use crate::expirations::AskedExpirations;
 use crate::transport::transport_of;
 use crate::weight::q_of;
-use authentication::{
-    ContactParams, are_contact_params, form_of, is_named, param_named, port_of_uri, value_of,
-};
+use authentication::{ContactParams, are_contact_params, form_of, is_named, param_named, param_value, port_of_uri};
 use sip_lex::trim;
 use sip_uri::{Hop, SipUri, Transport, UriFault};
 use sip_via::is_address;
@@ -31,7 +29,7 @@ pub(crate) struct ContactTerms<'a> {
     pub source: Hop,
     /// Whether the proxy has streams.
     pub streams: bool,
-    pub expirations: Expirations,
+    pub expirations: AskedExpirations,
     /// The value of Expires.
     pub expires: Option<&'a [u8]>,
 }
@@ -96,7 +94,7 @@ fn value_named<'a>(params: Option<&'a [u8]>, name: &[u8]) -> Option<&'a [u8]>
 {
     match param_named(params, name) {
         None => None,
-        Some(param) => value_of(param),
+        Some(param) => param_value(param),
     }
 }
 
@@ -108,7 +106,7 @@ fn time_of(terms: &ContactTerms<'_>, params: Option<&[u8]>) -> u32
         None => terms.expirations.time_by(None, terms.expires),
         Some(param) => terms
             .expirations
-            .time_by(Some(value_of(param)), terms.expires),
+            .time_by(Some(param_value(param)), terms.expires),
     }
 }
 

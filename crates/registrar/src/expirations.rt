@@ -7,7 +7,7 @@ use sip_lex::read_number;
 
 /// For how many seconds a contact is bound (RFC 3261 section 10.2.1.1).
 #[derive(Clone, Copy, Debug, PartialEq, Eq)]
-pub struct Expirations {
+pub struct AskedExpirations {
     /// The fewest.
     pub least: u32,
     /// Where the request says nothing, or nothing that can be read.
@@ -35,7 +35,7 @@ fn seconds_if_any(text: Option<&[u8]>) -> Option<u64>
     }
 }
 
-impl Expirations {
+impl AskedExpirations {
     ghost use Rattle.registrar.specs.Expirations as spec;
 
     /// These seconds, as far as they may be; the usual ones where there are none.

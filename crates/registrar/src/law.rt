@@ -6,7 +6,7 @@ ghost use Rattle.authentication.specs.declared.challenge.Challenger.TheVariants.
 ghost use Rattle.authentication.specs.declared.domain.Domain.{Domain};
 ghost use Rattle.authentication.specs.Realm.{Realm};
 ghost use Rattle.authentication.specs.Standing as known;
-ghost use Rattle.registrar.specs.declared.expirations.Expirations.{Expirations};
+ghost use Rattle.registrar.specs.declared.expirations.AskedExpirations.{AskedExpirations};
 ghost use Rattle.registrar.specs.declared.source.Source.{Source};
 ghost use Rattle.bindings.specs.Bindings.{Binding};
 ghost use Rattle.bindings.specs.Registering.{registered};
@@ -19,7 +19,7 @@ ghost use Rattle.registrar.specs.Outcome.{Changes, Repeated, outcome_of, registe
 ///
 /// A law over the definitions, with nothing to run.
 pub fn bindings_need_their_users_password()
-    ensures { (domain : Domain) (realm : Option Realm) (expirations : Expirations) (source : Source) (m : MessageText) (registration : spec.Registration)
+    ensures { (domain : Domain) (realm : Option Realm) (expirations : AskedExpirations) (source : Source) (m : MessageText) (registration : spec.Registration)
         → spec.IsAsking domain realm expirations source m (spec.Registers registration) → source.inside ≡ false
         → known.Stands true Server realm m (known.arrival_of m (address_text source.hop.addr) source.second) (known.Right registration.user) }
 {}

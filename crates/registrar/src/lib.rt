@@ -19,8 +19,8 @@ mod transport;
 mod weight;
 
 pub use asking::{Asking, Registrar, Registration, asking_of};
-pub use expirations::Expirations;
+pub use expirations::AskedExpirations;
 pub use law::{bindings_need_their_users_password, changes_are_of_the_request};
-pub use outcome::{Outcome, full_answer};
+pub use outcome::{RegisterOutcome, full_answer};
 pub use shown::okay;
 pub use source::Source;

@@ -13,7 +13,7 @@ ghost use Rattle.registrar.specs.SeenOutcome.{seen_outcome};
 use crate::asked::AskedContact;
 use crate::asking::Registration;
 use crate::contacts::Contacts;
-use authentication::Answer;
+use authentication::OwnAnswer;
 use bindings::{RegisterContact, RegisterRefusal, RegisterRequest, UserBindings};
 use sip_build::OwnStatus;
 use sip_lex::append_decimal;
@@ -21,11 +21,11 @@ use std::alloc::{AllocError, Allocator, Global};
 
 /// What a REGISTER request makes of the bindings of its user.
 #[derive(Drop)]
-pub enum Outcome<A: Allocator = Global> {
+pub enum RegisterOutcome<A: Allocator = Global> {
     /// It was taken before, and changes nothing: it is answered as one that was taken.
     Repeated,
     /// It changes nothing, and is answered so.
-    Refused(Answer<A>),
+    Refused(OwnAnswer<A>),
     /// The bindings afterwards.
     Changes(UserBindings<A>),
 }
@@ -102,11 +102,11 @@ fn decimal_value<A: Allocator>(alloc: A, n: u32) -> Result<Vec<u8, A>, AllocErro
 }
 
 /// The 423 that says how many seconds are the fewest.
-fn too_brief_answer<A: Allocator + Clone>(alloc: A, least: u32) -> Result<Answer<A>, AllocError>
+fn too_brief_answer<A: Allocator + Clone>(alloc: A, least: u32) -> Result<OwnAnswer<A>, AllocError>
     ensures { IfOk result (λ answer. answer ≡ too_brief_answer least) }
 {
     let value = decimal_value(alloc.clone()?, least)?;
-    let mut answer = Answer::new(alloc, OwnStatus::IntervalTooBrief);
+    let mut answer = OwnAnswer::new(alloc, OwnStatus::IntervalTooBrief);
     answer.push(b"Min-Expires", value)?;
     Ok(answer)
 }
@@ -116,20 +116,20 @@ fn too_brief_answer<A: Allocator + Clone>(alloc: A, least: u32) -> Result<Answer
 /// # Errors
 ///
 /// Only where the allocator refuses.
-pub fn full_answer<A: Allocator + Clone>(alloc: A) -> Result<Answer<A>, AllocError>
+pub fn full_answer<A: Allocator + Clone>(alloc: A) -> Result<OwnAnswer<A>, AllocError>
     ensures { IfOk result (λ answer. answer ≡ full_answer) }
 {
     let value = Vec::from_slice(alloc.clone()?, b"60")?;
-    let mut answer = Answer::new(alloc, OwnStatus::ServiceUnavailable);
+    let mut answer = OwnAnswer::new(alloc, OwnStatus::ServiceUnavailable);
     answer.push(b"Retry-After", value)?;
     Ok(answer)
 }
 
 /// An answer of this status without further lines.
-fn refused<A: Allocator>(alloc: A, status: OwnStatus) -> Outcome<A>
+fn refused<A: Allocator>(alloc: A, status: OwnStatus) -> RegisterOutcome<A>
     ensures { seen_outcome result ≡ refused_with status }
 {
-    Outcome::Refused(Answer::new(alloc, status))
+    RegisterOutcome::Refused(OwnAnswer::new(alloc, status))
 }
 
 /// Whether so many bindings and those of the others are more than there may be.
@@ -145,13 +145,13 @@ fn unless_full<A: Allocator + Clone>(
     others: u32,
     most: u32,
     changed: UserBindings<A>,
-) -> Result<Outcome<A>, AllocError>
+) -> Result<RegisterOutcome<A>, AllocError>
     ensures { IfOk result (λ outcome. seen_outcome outcome ≡ unless_full others most changed) }
 {
     if is_full(others, most, changed.len()) {
-        Ok(Outcome::Refused(full_answer(alloc)?))
+        Ok(RegisterOutcome::Refused(full_answer(alloc)?))
     } else {
-        Ok(Outcome::Changes(changed))
+        Ok(RegisterOutcome::Changes(changed))
     }
 }
 
@@ -164,14 +164,14 @@ fn refused_by<A: Allocator + Clone>(
     alloc: A,
     least: u32,
     why: RegisterRefusal,
-) -> Result<Outcome<A>, AllocError>
+) -> Result<RegisterOutcome<A>, AllocError>
     ensures { IfOk result (λ outcome. (why ≡ refusals.NoMemory → ⊥) × (seen_outcome outcome ≡ refused_by least why)) }
 {
     match why {
         RegisterRefusal::Star | RegisterRefusal::TooMany | RegisterRefusal::Twice => {
             Ok(refused(alloc, OwnStatus::BadRequest))
         }
-        RegisterRefusal::TooBrief => Ok(Outcome::Refused(too_brief_answer(alloc, least)?)),
+        RegisterRefusal::TooBrief => Ok(RegisterOutcome::Refused(too_brief_answer(alloc, least)?)),
         RegisterRefusal::OutOfOrder => Ok(refused(alloc, OwnStatus::ServerInternalError)),
         RegisterRefusal::NoMemory => Err(AllocError),
     }
@@ -185,7 +185,7 @@ fn outcome_by<A: Allocator + Clone>(
     others: u32,
     most: u32,
     bindings: &UserBindings<A>,
-) -> Result<Outcome<A>, AllocError>
+) -> Result<RegisterOutcome<A>, AllocError>
     requires { is_repeat (seen_request request.now) bindings.now ≡ false }
     ensures { IfOk result (λ outcome. seen_outcome outcome
         ≡ outcome_by (seen_request request.now) others most bindings.now (refusal (seen_request request.now) (there request.now.at bindings.now))) }
@@ -211,11 +211,11 @@ fn outcome_with<A: Allocator + Clone>(
     others: u32,
     most: u32,
     bindings: &UserBindings<A>,
-) -> Result<Outcome<A>, AllocError>
+) -> Result<RegisterOutcome<A>, AllocError>
     ensures { IfOk result (λ outcome. seen_outcome outcome ≡ outcome_with (seen_request request.now) is_malformed others most bindings.now) }
 {
     if bindings.is_repeat(request) {
-        return Ok(Outcome::Repeated);
+        return Ok(RegisterOutcome::Repeated);
     }
     if is_malformed {
         return Ok(refused(alloc, OwnStatus::BadRequest));
@@ -241,7 +241,7 @@ impl<A: Allocator + Clone> Registration<'_, A> {
         others: u32,
         most: u32,
         bindings: &UserBindings<B>,
-    ) -> Result<Outcome<B>, AllocError>
+    ) -> Result<RegisterOutcome<B>, AllocError>
         ensures { IfOk result (λ outcome. seen_outcome outcome ≡ outcome_of (seen_registration self.now) others most bindings.now) }
     {
         let contacts = as_contacts(alloc.clone()?, self.contacts.listed())?;

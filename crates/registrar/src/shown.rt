@@ -5,7 +5,7 @@ ghost use Rattle.sip_lex.specs.Values.{begins_with_space, is_line, is_value};
 ghost use Rattle.httpdate.specs.Date.{unix_secs};
 ghost use Rattle.registrar.specs.Shown.{IsOkay, is_item, okay, seconds_left, with_contact};
 
-use authentication::Answer;
+use authentication::OwnAnswer;
 use bindings::{Binding, UserBindings};
 use httpdate::HttpDate;
 use sip_build::OwnStatus;
@@ -61,7 +61,7 @@ fn contact_value<B: Allocator>(
 /// Adds the line of a binding, where its item may stand in one.
 fn add_contact<A: Allocator, B: Allocator + Clone>(
     alloc: B,
-    answer: &mut Answer<B>,
+    answer: &mut OwnAnswer<B>,
     moment: u64,
     binding: &Binding<A>,
 ) -> Result<(), AllocError>
@@ -82,11 +82,11 @@ fn okay_with_date<A: Allocator, B: Allocator + Clone>(
     moment: u64,
     date: &[u8],
     bindings: &UserBindings<A>,
-) -> Result<Answer<B>, AllocError>
+) -> Result<OwnAnswer<B>, AllocError>
     requires { is_value date.now ≡ true }
     ensures { IfOk result (λ answer. answer ≡ okay moment date.now bindings.now) }
 {
-    let mut answer = Answer::new(alloc.clone()?, OwnStatus::Okay);
+    let mut answer = OwnAnswer::new(alloc.clone()?, OwnStatus::Okay);
     let mut there = bindings.at(moment);
     while let Some(binding) = there.next() {
         add_contact(alloc.clone()?, &mut answer, moment, binding)?;
@@ -118,7 +118,7 @@ pub fn okay<A: Allocator, B: Allocator + Clone>(
     moment: u64,
     second: u32,
     bindings: &UserBindings<A>,
-) -> Result<Answer<B>, AllocError>
+) -> Result<OwnAnswer<B>, AllocError>
     ensures { IfOk result (IsOkay moment second bindings.now) }
 {
     let date = date_of(second);

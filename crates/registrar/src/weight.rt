@@ -3,7 +3,7 @@ ghost use Rattle.std.specs.Prelude.{◌≡◌, ◌-◌};
 ghost use Rattle.std.specs.Option.{option_copied};
 ghost use Rattle.sip_uri.specs.Contact.{are_decimals, contact_params, q_decimals, q_of, q_value, q_value_if_any};
 
-use authentication::{ContactParams, is_named, value_of};
+use authentication::{ContactParams, is_named, param_value};
 use sip_lex::are_digits;
 
 /// The weight where none is written, or one of another form.
@@ -59,7 +59,7 @@ pub(crate) fn q_of(params: Option<&[u8]>) -> u16
     let mut params = ContactParams::of(params);
     while let Some(param) = params.next() {
         if is_named(param, b"q") {
-            return q_value_if_any(value_of(param));
+            return q_value_if_any(param_value(param));
         }
     }
     FULL_WEIGHT

@@ -1,7 +1,7 @@
 //! What has to be in an answer.
 use crate::requests::joined;
 use crate::world::{SECOND, SECRET};
-use authentication::{Answer, append_address};
+use authentication::{OwnAnswer, append_address};
 use sip_digest::append_nonce;
 use sip_text::HeaderLine;
 use std::alloc::{AllocError, Global};
@@ -70,7 +70,7 @@ fn are_challenges(
 /// Whether the answer has this status and these further lines.
 pub fn is_answer(
     alloc: Global,
-    answer: &Answer,
+    answer: &OwnAnswer,
     status: u16,
     wanted: Wanted,
     addr: [u8; 4],

@@ -4,10 +4,10 @@ use crate::passwords::{BOBS, line};
 use crate::registers::{FIRST, SECOND_ONE};
 use crate::requests::{joined, request};
 use crate::world::{EXPIRATIONS, SECOND, domain, realm, users};
-use authentication::Answer;
+use authentication::OwnAnswer;
 use bindings::UserBindings;
-use refusing::{Answer as Told, Heap, Single, Stateless, refused_once};
-use registrar::{Asking, Outcome, Registrar, Registration, Source, asking_of, okay};
+use refusing::{Attempt as Told, Heap, Single, Stateless, refused_once};
+use registrar::{Asking, RegisterOutcome, Registrar, Registration, Source, asking_of, okay};
 use sip_build::own_tag;
 use sip_text::Message;
 use sip_uri::Hop;
@@ -30,7 +30,7 @@ fn source() -> Source {
 fn text_of<A: Allocator + Copy>(
     alloc: A,
     message: &Message<Global>,
-    answer: &Answer<A>,
+    answer: &OwnAnswer<A>,
 ) -> Result<Vec<u8, A>, AllocError> {
     let mut text = Vec::new(alloc);
     answer.write(alloc, message, &mut text)?;
@@ -55,9 +55,9 @@ fn outcome_text<A: Allocator + Copy>(
 ) -> Result<Vec<u8, A>, AllocError> {
     let bindings = UserBindings::new(alloc);
     match asked.outcome_of(alloc, 0, 10, &bindings) {
-        Ok(Outcome::Repeated) => taken_text(alloc, message, &bindings),
-        Ok(Outcome::Refused(answer)) => text_of(alloc, message, &answer),
-        Ok(Outcome::Changes(changed)) => taken_text(alloc, message, &changed),
+        Ok(RegisterOutcome::Repeated) => taken_text(alloc, message, &bindings),
+        Ok(RegisterOutcome::Refused(answer)) => text_of(alloc, message, &answer),
+        Ok(RegisterOutcome::Changes(changed)) => taken_text(alloc, message, &changed),
         Err(AllocError) => Err(AllocError),
     }
 }

@@ -3,9 +3,9 @@ use crate::answers::{Wanted, is_answer};
 use crate::passwords::{Password, line_if_any};
 use crate::requests::request;
 use crate::world::{EXPIRATIONS, SECOND, domain, realm, users};
-use authentication::{Answer, Realm};
+use authentication::{OwnAnswer, RealmSecrets};
 use bindings::UserBindings;
-use registrar::{Asking, Outcome, Registrar, Registration, Source, asking_of, okay};
+use registrar::{Asking, RegisterOutcome, Registrar, Registration, Source, asking_of, okay};
 use sip_text::Message;
 use sip_uri::Hop;
 use std::alloc::Global;
@@ -64,7 +64,7 @@ fn is_name(noted: &Option<Vec<u8>>, wanted: Option<&[u8]>) -> bool {
     }
 }
 
-fn is_wanted(alloc: Global, answer: &Answer, row: &Row) -> bool {
+fn is_wanted(alloc: Global, answer: &OwnAnswer, row: &Row) -> bool {
     is_answer(alloc, answer, row.status, row.wanted, row.from.0)
 }
 
@@ -103,9 +103,9 @@ fn after(
         return None;
     };
     match outcome {
-        Outcome::Repeated => is_taken(alloc, &bindings, row).then_some(bindings),
-        Outcome::Refused(answer) => is_wanted(alloc, &answer, row).then_some(bindings),
-        Outcome::Changes(changed) => is_taken(alloc, &changed, row).then_some(changed),
+        RegisterOutcome::Repeated => is_taken(alloc, &bindings, row).then_some(bindings),
+        RegisterOutcome::Refused(answer) => is_wanted(alloc, &answer, row).then_some(bindings),
+        RegisterOutcome::Changes(changed) => is_taken(alloc, &changed, row).then_some(changed),
     }
 }
 
@@ -143,7 +143,7 @@ fn all_followed(alloc: Global, registrar: &Registrar<'_>, rows: &[Row]) -> bool 
     true
 }
 
-fn plays_in(alloc: Global, realm: Option<&Realm<'_>>, rows: &[Row]) -> bool {
+fn plays_in(alloc: Global, realm: Option<&RealmSecrets<'_>>, rows: &[Row]) -> bool {
     let registrar = Registrar {
         domain: domain(),
         realm,

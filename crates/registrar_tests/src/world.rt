@@ -1,6 +1,6 @@
 //! The proxy of the tests: its domain, its realm, and who has a password there.
-use authentication::{Domain, Realm};
-use registrar::Expirations;
+use authentication::{Domain, RealmSecrets};
+use registrar::AskedExpirations;
 use sip_digest::Algorithms;
 use sip_via::Own;
 use std::alloc::{AllocError, Global};
@@ -12,7 +12,7 @@ pub const SECRET: [u8; 32] = [7; 32];
 /// The second at which a test begins.
 pub const SECOND: u32 = 1_764_400_000;
 
-pub const EXPIRATIONS: Expirations = Expirations {
+pub const EXPIRATIONS: AskedExpirations = AskedExpirations {
     least: 60,
     usual: 3600,
     most: 86400,
@@ -44,6 +44,6 @@ pub fn users(alloc: Global) -> Option<UserList> {
 }
 
 /// The realm example.com, which challenges by SHA-256 and then by MD5.
-pub fn realm(users: &UserList) -> Option<Realm<'_>> {
-    Realm::new(b"example.com", Algorithms::Sha256AndMd5, users, &SECRET)
+pub fn realm(users: &UserList) -> Option<RealmSecrets<'_>> {
+    RealmSecrets::new(b"example.com", Algorithms::Sha256AndMd5, users, &SECRET)
 }

@@ -8,8 +8,8 @@ use Rattle.sip_via.specs.Address.{address_text}
 use Rattle.proxy_config.proofs.laws.Lines as setup_laws
 use Rattle.proxy_config.specs.Line as setup
 use Rattle.proxy_config.specs.LineReading as setup_line
-use Rattle.service_config.specs.declared.line.Word.{Word}
-use Rattle.service_config.specs.declared.line.Word.TheVariants as word
+use Rattle.service_config.specs.declared.line.SettingsWord.{SettingsWord}
+use Rattle.service_config.specs.declared.line.SettingsWord.TheVariants as word
 use Rattle.service_config.specs.inner.LineReading.{expirations_if, gateway_of, location_cut, net_at, net_cut, net_if, of_setup, read_cut, read_expirations, read_line, read_net, read_plain, read_worded, realm_cut, second_expiration, third_expiration, word_of}
 
 abbrev Found : List ℕ → Line → Type 0
@@ -116,7 +116,7 @@ setup_found text (setup.LocationLine user q rest) line spelled h e = parts (cut 
 
 -- ---- by its word
 
-abbrev IsWord : Word → List ℕ → Type 0
+abbrev IsWord : SettingsWord → List ℕ → Type 0
 IsWord word.Ring text = text ≡ codes "ring"
 IsWord word.Realm text = text ≡ codes "realm"
 IsWord word.Expires text = text ≡ codes "expires"
@@ -124,7 +124,7 @@ IsWord word.Trust text = text ≡ codes "trust"
 IsWord word.Gateway text = text ≡ codes "gateway"
 IsWord word.OfSetup text = Unit {0}
 
-word_step : (text : List ℕ) (b : Bool) (w r : Word) → (b ≡ true → IsWord w text) → IsWord r text → IsWord (cond b w r) text
+word_step : (text : List ℕ) (b : Bool) (w r : SettingsWord) → (b ≡ true → IsWord w text) → IsWord r text → IsWord (cond b w r) text
 word_step text true w r same others = same refl
 word_step text false w r same others = others
 
@@ -140,7 +140,7 @@ word_found text =
 abbrev at_front : List ℕ → List ℕ → List ℕ
 at_front rest word = word ++ 32 ∷ rest
 
-worded_found : (w : Word) (text front rest : List ℕ) (line : Line) → text ≡ front ++ 32 ∷ rest → IsWord w front → read_worded text rest w ≡ Some line → Found text line
+worded_found : (w : SettingsWord) (text front rest : List ℕ) (line : Line) → text ≡ front ++ 32 ∷ rest → IsWord w front → read_worded text rest w ≡ Some line → Found text line
 worded_found word.Ring text front rest line whole is e =
     found_map RingLine (number_from 1 most_ring rest) line (λ l. Found text l)
     (λ n at. let f = number_from_found 1 most_ring rest n (omega arith) at in (whole ∙ ap (at_front rest) is ∙ ap (λ (t : List ℕ). codes "ring " ++ t) f.0, (f.1, f.2))) e

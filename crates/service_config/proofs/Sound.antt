@@ -12,8 +12,8 @@ use Rattle.proxy_config.specs.Parts as parts
 use Rattle.proxy_config.specs.Setup.{IsKept, KeepsFrom, KeepsRules, Location, MayFollow, Setup}
 use Rattle.service_config.specs.Configuration.{Draft, no_draft, of_kind, with_draft}
 use Rattle.service_config.specs.Settings.{Gateway, Settings, in_settings, longest_of, with_gateway, with_line}
-use Rattle.service_config.specs.declared.kind.Kind.{Kind}
-use Rattle.service_config.specs.declared.kind.Kind.TheVariants as kind
+use Rattle.service_config.specs.declared.kind.LineKind.{LineKind}
+use Rattle.service_config.specs.declared.kind.LineKind.TheVariants as kind
 use Rattle.service_config.specs.inner.LineReading.{read_line}
 use Rattle.service_config.specs.inner.Reading.{IsSound, with_text}
 use Rattle.service_config.proofs.LineLaws.{line_found}
@@ -25,12 +25,12 @@ or_true true b e f = refl
 or_true false b e f = let wrong : true ≡ false = sym e ∙ f in absurd cc
 
 -- what is no own address stands behind it
-begun : (last : Option Kind) (k : Kind) → may_follow last k ≡ true → (place_of k == 0) ≡ false → is_some last ≡ true
+begun : (last : Option LineKind) (k : LineKind) → may_follow last k ≡ true → (place_of k == 0) ≡ false → is_some last ≡ true
 begun None k h other = let wrong : true ≡ false = sym h ∙ other in absurd cc
 begun (Some earlier) k h other = refl
 
 -- what stands behind the domain has it before it
-passed : (last : Option Kind) (k : Kind) → may_follow last k ≡ true → nat_le (place_of k) 2 ≡ false → (place_of k == 0) ≡ false → is_whole last ≡ true
+passed : (last : Option LineKind) (k : LineKind) → may_follow last k ≡ true → nat_le (place_of k) 2 ≡ false → (place_of k == 0) ≡ false → is_whole last ≡ true
 passed None k h behind other = let wrong : true ≡ false = sym h ∙ other in absurd cc
 passed (Some earlier) k h behind other =
     or_true (is_from_domain earlier) (nat_le (place_of k) 2) (and_parts _ (is_from_domain earlier || nat_le (place_of k) 2) h).1 behind
@@ -43,7 +43,7 @@ record Same (s t : Setup) : Type 0 where
   locations : KeepsRules s.locations → KeepsRules t.locations
 
 -- a line behind the domain
-behind_domain : (draft : Draft) (k : Kind) (t : Settings) → IsSound draft → may_follow draft.last k ≡ true → nat_le (place_of k) 2 ≡ false → (place_of k == 0) ≡ false
+behind_domain : (draft : Draft) (k : LineKind) (t : Settings) → IsSound draft → may_follow draft.last k ≡ true → nat_le (place_of k) 2 ≡ false → (place_of k == 0) ≡ false
     → Same draft.settings.setup t.setup → IsSound (of_kind k t)
 behind_domain draft k t h follows behind other same = record {
   port = λ _. subst (λ (n : ℕ). 1 ≤ n) same.port (h.port (begun draft.last k follows other));
@@ -75,44 +75,44 @@ location_keeps locations user q text longest more within e kept =
 
 -- ---- each line
 
-abbrev Takes : Draft → Kind → Line → Settings → Type 0
+abbrev Takes : Draft → LineKind → Line → Settings → Type 0
 Takes draft k line t = (may_follow draft.last k ≡ true) × (with_line draft.settings line ≡ Some t)
 
-setup_sound : (draft : Draft) (line : setup.Line) (t : Settings) → IsSound draft → HasParts (SetupLine line) → (k : Kind) → kind_of (SetupLine line) ≡ Some k → Takes draft k (SetupLine line) t
+setup_sound : (draft : Draft) (line : setup.Line) (t : Settings) → IsSound draft → HasParts (SetupLine line) → (k : LineKind) → kind_of (SetupLine line) ≡ Some k → Takes draft k (SetupLine line) t
     → IsSound (of_kind k t)
 setup_sound draft (setup.OwnLine own) t h p k is takes =
     let same : kind.Own ≡ k = same_Some _ _ is in
-    subst (λ (j : Kind). IsSound (of_kind j t)) same
+    subst (λ (j : LineKind). IsSound (of_kind j t)) same
     (subst (λ (u : Settings). IsSound (of_kind kind.Own u)) (same_Some _ _ takes.1) (record { port = λ _. p.0.port; domain = λ w. absurd cc; locations = h.locations }))
 setup_sound draft (setup.InstanceLine n) t h p k is takes =
     let same : kind.Instance ≡ k = same_Some _ _ is in
-    let follows : may_follow draft.last kind.Instance ≡ true = subst (λ (j : Kind). may_follow draft.last j ≡ true) (sym same) takes.0 in
-    subst (λ (j : Kind). IsSound (of_kind j t)) same
+    let follows : may_follow draft.last kind.Instance ≡ true = subst (λ (j : LineKind). may_follow draft.last j ≡ true) (sym same) takes.0 in
+    subst (λ (j : LineKind). IsSound (of_kind j t)) same
     (subst (λ (u : Settings). IsSound (of_kind kind.Instance u)) (same_Some _ _ takes.1) (record { port = λ _. h.port (begun draft.last kind.Instance follows refl); domain = λ w. absurd cc; locations = h.locations }))
 setup_sound draft (setup.DomainLine host) t h p k is takes =
     let same : kind.Domain ≡ k = same_Some _ _ is in
-    let follows : may_follow draft.last kind.Domain ≡ true = subst (λ (j : Kind). may_follow draft.last j ≡ true) (sym same) takes.0 in
-    subst (λ (j : Kind). IsSound (of_kind j t)) same
+    let follows : may_follow draft.last kind.Domain ≡ true = subst (λ (j : LineKind). may_follow draft.last j ≡ true) (sym same) takes.0 in
+    subst (λ (j : LineKind). IsSound (of_kind j t)) same
     (subst (λ (u : Settings). IsSound (of_kind kind.Domain u)) (same_Some _ _ takes.1) (record { port = λ _. h.port (begun draft.last kind.Domain follows refl); domain = λ w. p.0; locations = h.locations }))
 setup_sound draft (setup.PreferLine statuses) t h p k is takes =
     let same : kind.Prefer ≡ k = same_Some _ _ is in
-    let follows : may_follow draft.last kind.Prefer ≡ true = subst (λ (j : Kind). may_follow draft.last j ≡ true) (sym same) takes.0 in
-    subst (λ (j : Kind). IsSound (of_kind j t)) same
+    let follows : may_follow draft.last kind.Prefer ≡ true = subst (λ (j : LineKind). may_follow draft.last j ≡ true) (sym same) takes.0 in
+    subst (λ (j : LineKind). IsSound (of_kind j t)) same
     (behind_domain draft kind.Prefer t h follows refl refl (subst (λ (u : Settings). Same draft.settings.setup u.setup) (same_Some _ _ takes.1) (record { port = refl; domain = refl; locations = λ kept. kept })))
 setup_sound draft (setup.DepthLine depth) t h p k is takes =
     let same : kind.Depth ≡ k = same_Some _ _ is in
-    let follows : may_follow draft.last kind.Depth ≡ true = subst (λ (j : Kind). may_follow draft.last j ≡ true) (sym same) takes.0 in
-    subst (λ (j : Kind). IsSound (of_kind j t)) same
+    let follows : may_follow draft.last kind.Depth ≡ true = subst (λ (j : LineKind). may_follow draft.last j ≡ true) (sym same) takes.0 in
+    subst (λ (j : LineKind). IsSound (of_kind j t)) same
     (behind_domain draft kind.Depth t h follows refl refl (subst (λ (u : Settings). Same draft.settings.setup u.setup) (same_Some _ _ takes.1) (record { port = refl; domain = refl; locations = λ kept. kept })))
 setup_sound draft (setup.LocationLine user q uri) t h p k is takes = let wrong : true ≡ false = p.1 in absurd cc
 
 -- a line of this kind, which leaves the setup as it is
-plain_sound : (draft : Draft) (k : Kind) (t made : Settings) → IsSound draft → nat_le (place_of k) 2 ≡ false → (place_of k == 0) ≡ false → Same draft.settings.setup made.setup
+plain_sound : (draft : Draft) (k : LineKind) (t made : Settings) → IsSound draft → nat_le (place_of k) 2 ≡ false → (place_of k == 0) ≡ false → Same draft.settings.setup made.setup
     → may_follow draft.last k ≡ true → Some made ≡ Some t → IsSound (of_kind k t)
 plain_sound draft k t made h behind other same follows e =
     subst (λ (u : Settings). IsSound (of_kind k u)) (same_Some _ _ e) (behind_domain draft k made h follows behind other same)
 
-kind_sound : (draft next : Draft) (k : Kind) (line : Line) → ((t : Settings) → may_follow draft.last k ≡ true → with_line draft.settings line ≡ Some t → IsSound (of_kind k t))
+kind_sound : (draft next : Draft) (k : LineKind) (line : Line) → ((t : Settings) → may_follow draft.last k ≡ true → with_line draft.settings line ≡ Some t → IsSound (of_kind k t))
     → (b : Bool) → may_follow draft.last k ≡ b → cond b (option_map (of_kind k) (with_line draft.settings line)) None ≡ Some next → IsSound next
 kind_sound draft next k line each false follows e = absurd cc
 kind_sound draft next k line each true follows e = found_map (of_kind k) (with_line draft.settings line) next IsSound (λ t at. each t follows at) e
@@ -174,6 +174,6 @@ text_sound draft next text h e =
 pub kept : (draft : Draft) → IsSound draft → is_whole draft.last ≡ true → IsKept draft.settings.setup.own draft.settings.setup.domain draft.settings.setup.locations
 kept draft h whole = record { port = h.port (some draft.last whole); domain_is = h.domain whole; locations_keep = h.locations }
   where
-    some : (last : Option Kind) → is_whole last ≡ true → is_some last ≡ true
+    some : (last : Option LineKind) → is_whole last ≡ true → is_some last ≡ true
     some None w = absurd cc
     some (Some k) w = refl

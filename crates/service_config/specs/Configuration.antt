@@ -17,21 +17,21 @@ use Rattle.fork_text.specs.RuleLines.{ended}
 use Rattle.service_config.specs.Kind.{is_whole, kind_of, may_follow}
 use Rattle.service_config.specs.Line.{IsLine, Line, line_text}
 use Rattle.service_config.specs.Settings.{Settings, no_settings, with_line}
-use Rattle.service_config.specs.declared.kind.Kind.{Kind}
+use Rattle.service_config.specs.declared.kind.LineKind.{LineKind}
 
 -- what lines have said, and the kind of the last that said something
 pub record Draft : Type 0 where
-  pub last : Option Kind
+  pub last : Option LineKind
   pub settings : Settings
 
 -- before the first line, for a run with this number
 abbrev pub no_draft : ℕ → Draft
 no_draft number = record { last = None; settings = no_settings number }
 
-abbrev pub of_kind : Kind → Settings → Draft
+abbrev pub of_kind : LineKind → Settings → Draft
 of_kind kind settings = record { last = Some kind; settings = settings }
 
-abbrev pub with_kind : Draft → Line → Option Kind → Option Draft
+abbrev pub with_kind : Draft → Line → Option LineKind → Option Draft
 with_kind draft line None = Some draft
 with_kind draft line (Some kind) = if may_follow draft.last kind then option_map (of_kind kind) (with_line draft.settings line) else None
 

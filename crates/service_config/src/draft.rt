@@ -13,23 +13,23 @@ ghost use Rattle.service_config.specs.inner.LineView.{line_of};
 ghost use Rattle.service_config.specs.inner.Reading.{IsSound, finished, read_settings, with_text};
 
 use crate::hosts::Hosts;
-use crate::kind::{Kind, is_whole, may_follow};
-use crate::line::{Line, Reading, cut_location, location_in, read_line, setup_kind};
+use crate::kind::{LineKind, is_whole, may_follow};
+use crate::line::{LineReading, SettingsLine, cut_location, location_in, read_line, setup_kind};
 use crate::parts::SettingsParts;
 use crate::settings::ServiceSettings;
-use proxy_config::{SetupFault, read_line as read_setup_line};
+use proxy_config::{SetupFault, read_setup_line};
 use sip_lex::cut_at;
 use std::alloc::{AllocError, Allocator};
 use std::marker::Model;
 
 /// The lines read so far: the kind of the last that says something, and what they set.
 #[derive(Drop)]
-struct Draft<A: Allocator> {
-    last: Option<Kind>,
+struct SettingsDraft<A: Allocator> {
+    last: Option<LineKind>,
     parts: SettingsParts<A>,
 }
 
-impl<A: Allocator> Model for Draft<A> {
+impl<A: Allocator> Model for SettingsDraft<A> {
     ghost use Rattle.service_config.specs.Configuration as spec;
 
     ghost Value = { spec.Draft };
@@ -37,18 +37,18 @@ impl<A: Allocator> Model for Draft<A> {
     ghost view = { λ d. record { last = d.last; settings = d.parts } };
 }
 
-impl<A: Allocator + Clone> Draft<A> {
+impl<A: Allocator + Clone> SettingsDraft<A> {
     fn new(alloc: &A, number: u32) -> Result<Self, AllocError>
         ensures { IfOk result (λ draft. draft ≡ no_draft number) }
     {
-        Ok(Draft {
+        Ok(SettingsDraft {
             last: None,
             parts: SettingsParts::new(alloc, number)?,
         })
     }
 
     /// Adds a line of a service, and answers whether it may come here.
-    fn add_line(&mut self, alloc: &A, line: Line<'_>) -> Result<bool, AllocError>
+    fn add_line(&mut self, alloc: &A, line: SettingsLine<'_>) -> Result<bool, AllocError>
         requires { HasParts (line_of line) }
         ensures { IfOk result (λ done. (if done then Some self.new else None) ≡ with_draft self.old (line_of line.entry)) }
     {
@@ -112,8 +112,8 @@ impl<A: Allocator + Clone> Draft<A> {
     {
         match read_line(text) {
             None => Ok(false),
-            Some(Reading::OfSetup) => self.add_of_setup(alloc, text),
-            Some(Reading::Own(line)) => self.add_line(alloc, line),
+            Some(LineReading::OfSetup) => self.add_of_setup(alloc, text),
+            Some(LineReading::Own(line)) => self.add_line(alloc, line),
         }
     }
 
@@ -161,7 +161,7 @@ pub(crate) fn read_all<A: Allocator + Clone>(
 ) -> Result<ServiceSettings<A>, SetupFault>
     ensures { GivesSettings (read_settings instance text.now) result }
 {
-    let mut draft = Draft::new(alloc, instance)?;
+    let mut draft = SettingsDraft::new(alloc, instance)?;
     let mut number = 1;
     let mut rest = text;
     loop {

@@ -4,7 +4,7 @@ ghost use Rattle.service_config.specs.Kind.{is_from_domain, is_whole, may_follow
 
 /// The kinds of lines that say something.
 #[derive(Clone, Copy, Debug, PartialEq, Eq)]
-pub(crate) enum Kind {
+pub(crate) enum LineKind {
     Own,
     Instance,
     Domain,
@@ -19,24 +19,24 @@ pub(crate) enum Kind {
     Location,
 }
 
-impl Kind {
+impl LineKind {
     /// The place of a kind in the order.
     fn place(self) -> u8
         ensures { result ≡ place_of self }
     {
         match self {
-            Kind::Own => 0,
-            Kind::Instance => 1,
-            Kind::Domain => 2,
-            Kind::Prefer => 3,
-            Kind::Depth => 4,
-            Kind::Ring => 5,
-            Kind::Realm => 6,
-            Kind::Expires => 7,
-            Kind::Strangers => 8,
-            Kind::Trust => 9,
-            Kind::Gateway => 10,
-            Kind::Location => 11,
+            LineKind::Own => 0,
+            LineKind::Instance => 1,
+            LineKind::Domain => 2,
+            LineKind::Prefer => 3,
+            LineKind::Depth => 4,
+            LineKind::Ring => 5,
+            LineKind::Realm => 6,
+            LineKind::Expires => 7,
+            LineKind::Strangers => 8,
+            LineKind::Trust => 9,
+            LineKind::Gateway => 10,
+            LineKind::Location => 11,
         }
     }
 
@@ -44,7 +44,7 @@ impl Kind {
     fn may_repeat(self) -> bool
         ensures { result ≡ may_repeat self }
     {
-        matches!(self, Kind::Trust | Kind::Gateway | Kind::Location)
+        matches!(self, LineKind::Trust | LineKind::Gateway | LineKind::Location)
     }
 
     /// Whether it is the domain, or stands behind it.
@@ -56,7 +56,7 @@ impl Kind {
 
     /// Whether a line of this kind may stand behind one of another: in the order, the same kind again where it may repeat, and the
     /// domain is not left out.
-    fn may_follow(self, earlier: Kind) -> bool
+    fn may_follow(self, earlier: LineKind) -> bool
         ensures { result ≡ may_follow_kind earlier self }
     {
         let is_behind = earlier.place() < self.place();
@@ -67,7 +67,7 @@ impl Kind {
 
 /// Whether a line of a kind may stand behind the last line that says something, if there is one: the first is that of the own
 /// address.
-pub(crate) fn may_follow(last: Option<Kind>, kind: Kind) -> bool
+pub(crate) fn may_follow(last: Option<LineKind>, kind: LineKind) -> bool
     ensures { result ≡ may_follow last kind }
 {
     match last {
@@ -77,7 +77,7 @@ pub(crate) fn may_follow(last: Option<Kind>, kind: Kind) -> bool
 }
 
 /// Whether all lines were read that have to be there.
-pub(crate) fn is_whole(last: Option<Kind>) -> bool
+pub(crate) fn is_whole(last: Option<LineKind>) -> bool
     ensures { result ≡ is_whole last }
 {
     match last {

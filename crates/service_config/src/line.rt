@@ -12,10 +12,10 @@ ghost use Rattle.service_config.specs.inner.LineReading.{location_cut, location_
 ghost use Rattle.service_config.specs.inner.LineView.{line_of, reading_in, seen_location};
 
 use crate::expirations::Expirations;
-use crate::kind::Kind;
+use crate::kind::LineKind;
 use crate::net::{Net, address_number, block};
-use fork_text::{read_number, read_number_before};
-use proxy_config::{Line as SetupLine, read_octets};
+use fork_text::{read_small_number, read_small_number_before};
+use proxy_config::{SetupLine, read_octets};
 use sip_digest::Algorithms;
 use sip_lex::{cut_at, read_plain_number};
 
@@ -33,7 +33,7 @@ const MOST_BITS: u64 = 32;
 
 /// The word that begins a line: one of a service, or another.
 #[derive(Clone, Copy, Debug, PartialEq, Eq)]
-pub(crate) enum Word {
+pub(crate) enum SettingsWord {
     Ring,
     Realm,
     Expires,
@@ -45,7 +45,7 @@ pub(crate) enum Word {
 /// What a line says that no text of a setup has so; texts are lent by the configuration. A location has its user, its q, its URI and
 /// for how many seconds it rings; a gateway its q and its URI.
 #[derive(Clone, Copy, Debug)]
-pub(crate) enum Line<'a> {
+pub(crate) enum SettingsLine<'a> {
     Ring(u16),
     Realm(&'a [u8], Option<Algorithms>),
     Expires(Expirations),
@@ -58,24 +58,24 @@ pub(crate) enum Line<'a> {
 
 /// What was read of a line.
 #[derive(Clone, Copy, Debug)]
-pub(crate) enum Reading<'a> {
+pub(crate) enum LineReading<'a> {
     /// Such a line.
-    Own(Line<'a>),
+    Own(SettingsLine<'a>),
     /// It is read as a line of a setup.
     OfSetup,
 }
 
 /// The kind of a line of a setup.
-pub(crate) fn setup_kind(line: &SetupLine<'_>) -> Kind
+pub(crate) fn setup_kind(line: &SetupLine<'_>) -> LineKind
     ensures { result ≡ setup_kind (setup_view.line_of line.now) }
 {
     match line {
-        SetupLine::Own(_) => Kind::Own,
-        SetupLine::Instance(_) => Kind::Instance,
-        SetupLine::Domain(_) => Kind::Domain,
-        SetupLine::Prefer(_) => Kind::Prefer,
-        SetupLine::Depth(_) => Kind::Depth,
-        SetupLine::Location(_, _, _) => Kind::Location,
+        SetupLine::Own(_) => LineKind::Own,
+        SetupLine::Instance(_) => LineKind::Instance,
+        SetupLine::Domain(_) => LineKind::Domain,
+        SetupLine::Prefer(_) => LineKind::Prefer,
+        SetupLine::Depth(_) => LineKind::Depth,
+        SetupLine::Location(_, _, _) => LineKind::Location,
     }
 }
 
@@ -89,20 +89,20 @@ pub(crate) fn location_in<'a>(line: &SetupLine<'a>) -> Option<(&'a [u8], u16, &'
     }
 }
 
-impl Line<'_> {
+impl SettingsLine<'_> {
     /// The kind of a line; `None` where it says nothing.
-    pub(crate) fn kind(&self) -> Option<Kind>
+    pub(crate) fn kind(&self) -> Option<LineKind>
         ensures { result ≡ kind_of (line_of self.now) }
     {
         match self {
-            Line::Ring(_) => Some(Kind::Ring),
-            Line::Realm(_, _) => Some(Kind::Realm),
-            Line::Expires(_) => Some(Kind::Expires),
-            Line::Strangers => Some(Kind::Strangers),
-            Line::Trust(_) => Some(Kind::Trust),
-            Line::Gateway(_, _) => Some(Kind::Gateway),
-            Line::Location(_, _, _, _) => Some(Kind::Location),
-            Line::Comment(_) => None,
+            SettingsLine::Ring(_) => Some(LineKind::Ring),
+            SettingsLine::Realm(_, _) => Some(LineKind::Realm),
+            SettingsLine::Expires(_) => Some(LineKind::Expires),
+            SettingsLine::Strangers => Some(LineKind::Strangers),
+            SettingsLine::Trust(_) => Some(LineKind::Trust),
+            SettingsLine::Gateway(_, _) => Some(LineKind::Gateway),
+            SettingsLine::Location(_, _, _, _) => Some(LineKind::Location),
+            SettingsLine::Comment(_) => None,
         }
     }
 }
@@ -112,7 +112,7 @@ impl Line<'_> {
 fn read_ring(digits: &[u8]) -> Option<u16>
     ensures { result ≡ number_from 1 most_ring digits.now }
 {
-    match read_number(digits, MOST_RING) {
+    match read_small_number(digits, MOST_RING) {
         None | Some(0) => None,
         Some(seconds) => Some(seconds),
     }
@@ -139,7 +139,7 @@ pub fn is_realm(text: &[u8]) -> bool
     1 <= text.len() && text.len() <= 64 && are_realm_bytes(text)
 }
 
-fn read_realm(text: &[u8]) -> Option<Line<'_>>
+fn read_realm(text: &[u8]) -> Option<SettingsLine<'_>>
     ensures { option_map line_of result ≡ realm_cut (cut (is 32) text.now) }
 {
     let (realm, names) = cut_at(text, b' ');
@@ -147,8 +147,8 @@ fn read_realm(text: &[u8]) -> Option<Line<'_>>
         return None;
     }
     match names {
-        None => Some(Line::Realm(realm, None)),
-        Some(names) => Some(Line::Realm(realm, Some(Algorithms::named(names)?))),
+        None => Some(SettingsLine::Realm(realm, None)),
+        Some(names) => Some(SettingsLine::Realm(realm, Some(Algorithms::named(names)?))),
     }
 }
 
@@ -222,63 +222,63 @@ fn read_net(text: &[u8]) -> Option<Net>
 // ---- location
 
 /// A location whose URI may have the seconds for which it rings behind it.
-pub(crate) fn cut_location<'a>(user: &'a [u8], q: u16, rest: &'a [u8]) -> Option<Line<'a>>
+pub(crate) fn cut_location<'a>(user: &'a [u8], q: u16, rest: &'a [u8]) -> Option<SettingsLine<'a>>
     ensures { option_map line_of result ≡ location_cut user.now q (cut (is 32) rest.now) }
 {
     match cut_at(rest, b' ') {
-        (uri, None) => Some(Line::Location(user, q, uri, None)),
-        (uri, Some(digits)) => Some(Line::Location(user, q, uri, Some(read_ring(digits)?))),
+        (uri, None) => Some(SettingsLine::Location(user, q, uri, None)),
+        (uri, Some(digits)) => Some(SettingsLine::Location(user, q, uri, Some(read_ring(digits)?))),
     }
 }
 
 // ---- a line
 
-fn word_of(text: &[u8]) -> Word
+fn word_of(text: &[u8]) -> SettingsWord
     ensures { result ≡ word_of text.now }
 {
     if text == b"ring".as_slice() {
-        Word::Ring
+        SettingsWord::Ring
     } else if text == b"realm".as_slice() {
-        Word::Realm
+        SettingsWord::Realm
     } else if text == b"expires".as_slice() {
-        Word::Expires
+        SettingsWord::Expires
     } else if text == b"trust".as_slice() {
-        Word::Trust
+        SettingsWord::Trust
     } else if text == b"gateway".as_slice() {
-        Word::Gateway
+        SettingsWord::Gateway
     } else {
-        Word::OfSetup
+        SettingsWord::OfSetup
     }
 }
 
 /// What stands behind one of the words of a service and a space.
-fn read_own(rest: &[u8], word: Word) -> Option<Line<'_>>
+fn read_own(rest: &[u8], word: SettingsWord) -> Option<SettingsLine<'_>>
     ensures { option_map line_of result ≡ read_own rest.now word }
 {
     match word {
-        Word::Ring => Some(Line::Ring(read_ring(rest)?)),
-        Word::Realm => read_realm(rest),
-        Word::Expires => Some(Line::Expires(read_expirations(rest)?)),
-        Word::Trust => Some(Line::Trust(read_net(rest)?)),
-        Word::Gateway => {
-            let (q, uri) = read_number_before(rest, MOST_Q)?;
-            Some(Line::Gateway(q, uri))
+        SettingsWord::Ring => Some(SettingsLine::Ring(read_ring(rest)?)),
+        SettingsWord::Realm => read_realm(rest),
+        SettingsWord::Expires => Some(SettingsLine::Expires(read_expirations(rest)?)),
+        SettingsWord::Trust => Some(SettingsLine::Trust(read_net(rest)?)),
+        SettingsWord::Gateway => {
+            let (q, uri) = read_small_number_before(rest, MOST_Q)?;
+            Some(SettingsLine::Gateway(q, uri))
         }
-        Word::OfSetup => None,
+        SettingsWord::OfSetup => None,
     }
 }
 
 /// What a line says by its word, and what stands behind the word and a space.
-fn read_worded(rest: &[u8], word: Word) -> Option<Reading<'_>>
+fn read_worded(rest: &[u8], word: SettingsWord) -> Option<LineReading<'_>>
     ensures { (text : List ℕ) → option_and_then (reading_in text) result ≡ read_worded text rest.now word }
 {
     match word {
-        Word::OfSetup => Some(Reading::OfSetup),
-        _ => Some(Reading::Own(read_own(rest, word)?)),
+        SettingsWord::OfSetup => Some(LineReading::OfSetup),
+        _ => Some(LineReading::Own(read_own(rest, word)?)),
     }
 }
 
-fn read_cut(text: &[u8]) -> Option<Reading<'_>>
+fn read_cut(text: &[u8]) -> Option<LineReading<'_>>
     ensures { option_and_then (reading_in text.now) result ≡ read_cut text.now (cut (is 32) text.now) }
 {
     match cut_at(text, b' ') {
@@ -294,20 +294,20 @@ fn says_nothing(text: &[u8]) -> bool
     matches!(text, [] | [b'#', ..])
 }
 
-fn read_plain(text: &[u8]) -> Option<Reading<'_>>
+fn read_plain(text: &[u8]) -> Option<LineReading<'_>>
     ensures { option_and_then (reading_in text.now) result ≡ read_plain text.now }
 {
     if says_nothing(text) {
-        return Some(Reading::Own(Line::Comment(text)));
+        return Some(LineReading::Own(SettingsLine::Comment(text)));
     }
     if text == b"strangers".as_slice() {
-        return Some(Reading::Own(Line::Strangers));
+        return Some(LineReading::Own(SettingsLine::Strangers));
     }
     read_cut(text)
 }
 
 /// What a text is read as; `None` where it spells no line.
-pub(crate) fn read_line(text: &[u8]) -> Option<Reading<'_>>
+pub(crate) fn read_line(text: &[u8]) -> Option<LineReading<'_>>
     requires { Lacks 10 text.now }
     ensures { option_and_then (reading_in text.now) result ≡ read_line text.now }
 {

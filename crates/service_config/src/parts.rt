@@ -8,7 +8,7 @@ ghost use Rattle.service_config.specs.inner.LineView.{line_of};
 
 use crate::expirations::Expirations;
 use crate::gateway::{Gateway, any_has_hop};
-use crate::line::Line;
+use crate::line::SettingsLine;
 use crate::net::Net;
 use crate::realm::OwnRealm;
 use proxy_config::{SetupParts, uri_if};
@@ -161,24 +161,24 @@ impl<A: Allocator + Clone> SettingsParts<A> {
     }
 
     /// Adds what a line says, and answers whether that may stand here.
-    pub(crate) fn add(&mut self, alloc: &A, line: Line<'_>) -> Result<bool, AllocError>
+    pub(crate) fn add(&mut self, alloc: &A, line: SettingsLine<'_>) -> Result<bool, AllocError>
         requires { HasParts (line_of line) }
         ensures { IfOk result (λ done. (if done then Some self.new else None) ≡ with_line self.old (line_of line.entry)) }
     {
         match line {
-            Line::Ring(seconds) => self.set_ring(u64::from(seconds) * 1_000),
-            Line::Realm(realm, algorithms) => {
+            SettingsLine::Ring(seconds) => self.set_ring(u64::from(seconds) * 1_000),
+            SettingsLine::Realm(realm, algorithms) => {
                 let text = realm.to_vec(alloc.clone()?)?;
                 self.set_realm(OwnRealm::new(text, algorithms_or_md5(algorithms)));
             }
-            Line::Expires(times) => self.set_expirations(times),
-            Line::Strangers => self.strangers = true,
-            Line::Trust(net) => self.add_net(net)?,
-            Line::Gateway(q, uri) => return self.add_gateway(alloc, q, uri),
-            Line::Location(user, q, uri, seconds) => {
+            SettingsLine::Expires(times) => self.set_expirations(times),
+            SettingsLine::Strangers => self.strangers = true,
+            SettingsLine::Trust(net) => self.add_net(net)?,
+            SettingsLine::Gateway(q, uri) => return self.add_gateway(alloc, q, uri),
+            SettingsLine::Location(user, q, uri, seconds) => {
                 return self.add_location(alloc, user, q, uri, seconds);
             }
-            Line::Comment(_) => {}
+            SettingsLine::Comment(_) => {}
         }
         Ok(true)
     }

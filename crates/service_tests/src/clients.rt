@@ -1,6 +1,6 @@
 //! What is to be done for a client of the control socket, without a socket.
 use crate::holds::holds;
-use fork_control::{Answer, Client, Command, Request, Turn};
+use fork_control::{Client, ClientAnswer, ClientTurn, ControlCommand, ControlRequest};
 use std::alloc::Global;
 use std::test::Fail;
 
@@ -15,16 +15,16 @@ enum State {
     Late,
 }
 
-const UNKNOWN: Option<Command> = Some(Command::Unknown);
+const UNKNOWN: Option<ControlCommand> = Some(ControlCommand::Unknown);
 
 /// What a client writes in two pieces, how it stands then, and what it asks.
-const REQUESTS: [([&str; 2], State, Option<Command>); 12] = [
+const REQUESTS: [([&str; 2], State, Option<ControlCommand>); 12] = [
     (["", ""], State::Open, None),
     (["sto", "p 3"], State::Open, None),
-    (["sto", "p 3\n"], State::Open, Some(Command::Stop(3))),
-    (["stop 3\r\n", "00\n"], State::Open, Some(Command::Stop(3))),
-    (["stop 3", ""], State::Closed, Some(Command::Stop(3))),
-    (["stop 3\n", ""], State::Late, Some(Command::Stop(3))),
+    (["sto", "p 3\n"], State::Open, Some(ControlCommand::Stop(3))),
+    (["stop 3\r\n", "00\n"], State::Open, Some(ControlCommand::Stop(3))),
+    (["stop 3", ""], State::Closed, Some(ControlCommand::Stop(3))),
+    (["stop 3\n", ""], State::Late, Some(ControlCommand::Stop(3))),
     (["stop 3", ""], State::Late, UNKNOWN),
     (["stop 3\r", ""], State::Closed, UNKNOWN),
     (["", ""], State::Closed, UNKNOWN),
@@ -33,13 +33,13 @@ const REQUESTS: [([&str; 2], State, Option<Command>); 12] = [
     (
         ["GET / HTTP/1.1\r\n", "Host"],
         State::Open,
-        Some(Command::Metrics),
+        Some(ControlCommand::Metrics),
     ),
 ];
 
 /// What a request asks that is written so.
-fn asked(pieces: [&str; 2], state: State) -> Option<Command> {
-    let mut request = Request::new();
+fn asked(pieces: [&str; 2], state: State) -> Option<ControlCommand> {
+    let mut request = ControlRequest::new();
     for piece in pieces {
         request.feed(piece.as_bytes());
     }
@@ -58,8 +58,8 @@ fn a_line_is_obeyed_once_it_is_whole(rt: HostRuntime) -> Result<(), Fail> {
 }
 
 /// What a request asks that has so many bytes in front of these.
-fn asked_behind(count: usize, end: &[u8], is_closed: bool) -> Option<Command> {
-    let mut request = Request::new();
+fn asked_behind(count: usize, end: &[u8], is_closed: bool) -> Option<ControlCommand> {
+    let mut request = ControlRequest::new();
     for _ in 0..count {
         request.feed(b"x");
     }
@@ -98,9 +98,9 @@ fn turn_of(
     deadline: Option<u64>,
     written: usize,
     is_closed: bool,
-) -> (Turn, Option<u64>) {
+) -> (ClientTurn, Option<u64>) {
     let mut client = client(b"stop 3\n");
-    client.reply(Answer::fixed(alloc, b"stopping\n"), deadline);
+    client.reply(ClientAnswer::fixed(alloc, b"stopping\n"), deadline);
     client.advance(written);
     if is_closed {
         client.close();
@@ -111,10 +111,10 @@ fn turn_of(
 #[test]
 fn a_client_that_is_not_answered_is_read(rt: HostRuntime) {
     for (line, now, turn) in [
-        ("stop 3", 999, Turn::Read),
-        ("stop 3", 1_000, Turn::Obey(Command::Unknown)),
-        ("stop 3\n", 0, Turn::Obey(Command::Stop(3))),
-        ("stop 3\n", 5_000, Turn::Obey(Command::Stop(3))),
+        ("stop 3", 999, ClientTurn::Read),
+        ("stop 3", 1_000, ClientTurn::Obey(ControlCommand::Unknown)),
+        ("stop 3\n", 0, ClientTurn::Obey(ControlCommand::Stop(3))),
+        ("stop 3\n", 5_000, ClientTurn::Obey(ControlCommand::Stop(3))),
     ] {
         let client = client(line.as_bytes());
         holds(&rt, client.turn(now) == turn, line);
@@ -130,14 +130,14 @@ fn a_client_that_is_not_answered_is_read(rt: HostRuntime) {
 #[test]
 fn an_answered_client_is_written_to_and_closed(rt: HostRuntime) {
     for (deadline, written, is_closed, turn, rest) in [
-        (Some(2_500), 0, false, Turn::Write, Some(500)),
-        (Some(2_500), 8, true, Turn::Write, Some(500)),
-        (Some(2_500), 9, false, Turn::Read, Some(500)),
-        (Some(2_500), 9, true, Turn::Close, Some(0)),
-        (Some(2_000), 0, false, Turn::Close, Some(0)),
-        (None, 8, true, Turn::Write, None),
-        (None, 9, false, Turn::Wait, None),
-        (None, 9, true, Turn::Wait, None),
+        (Some(2_500), 0, false, ClientTurn::Write, Some(500)),
+        (Some(2_500), 8, true, ClientTurn::Write, Some(500)),
+        (Some(2_500), 9, false, ClientTurn::Read, Some(500)),
+        (Some(2_500), 9, true, ClientTurn::Close, Some(0)),
+        (Some(2_000), 0, false, ClientTurn::Close, Some(0)),
+        (None, 8, true, ClientTurn::Write, None),
+        (None, 9, false, ClientTurn::Wait, None),
+        (None, 9, true, ClientTurn::Wait, None),
     ] {
         let found = turn_of(rt.alloc(), deadline, written, is_closed);
         holds(&rt, found == (turn, rest), "what is to be done");
@@ -147,7 +147,7 @@ fn an_answered_client_is_written_to_and_closed(rt: HostRuntime) {
 /// What is written of an answer by so many bytes at a time.
 fn written_by(alloc: Global, most: usize) -> Option<Vec<u8>> {
     let text = Vec::from_slice(alloc, b"calls 0\n").ok()?;
-    let mut answer = Answer::new(b"head ", text);
+    let mut answer = ClientAnswer::new(b"head ", text);
     let mut written = Vec::new(alloc);
     for _ in 0..20 {
         let count = answer.next().len().min(most);

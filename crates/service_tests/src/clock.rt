@@ -1,6 +1,6 @@
 //! A watch shows the time, and never an earlier one.
 use crate::holds::holds;
-use fork_clock::{Epoch, Watch};
+use fork_clock::{Epoch, ThreadClock};
 use std::test::Fail;
 use std::thread;
 use std::time::Duration;
@@ -11,7 +11,7 @@ const READINGS: u32 = 1_000;
 #[test]
 fn the_time_rises(rt: HostRuntime) -> Result<(), Fail> {
     let epoch = Epoch::now(&rt).ok_or("no clock")?;
-    let mut watch = Watch::new(epoch);
+    let mut watch = ThreadClock::new(epoch);
     let mut last = 0u64;
     let mut rises = true;
     for _ in 0..READINGS {

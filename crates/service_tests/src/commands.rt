@@ -1,33 +1,33 @@
 //! The lines of the control socket.
 use crate::holds::holds;
-use fork_control::{Command, read_command};
+use fork_control::{ControlCommand, read_command};
 use std::test::Fail;
 
-const LINES: [(&str, Command); 24] = [
-    ("stop 0", Command::Stop(0)),
-    ("stop 30", Command::Stop(30)),
-    ("stop 86400", Command::Stop(86_400)),
-    ("stop 86401", Command::Unknown),
-    ("stop 030", Command::Unknown),
-    ("stop", Command::Unknown),
-    ("stop ", Command::Unknown),
-    ("reload", Command::Reload),
-    ("reload ", Command::Unknown),
-    ("stats", Command::Stats),
-    ("GET /metrics HTTP/1.1", Command::Metrics),
-    ("GET", Command::Unknown),
-    ("get / HTTP/1.1", Command::Unknown),
-    ("calls", Command::Calls(0)),
-    ("calls 0", Command::Calls(0)),
-    ("calls 256", Command::Calls(256)),
-    ("calls ", Command::Unknown),
-    ("calls 0256", Command::Unknown),
-    ("calls 18446744073709551615", Command::Calls(u64::MAX)),
-    ("calls 18446744073709551616", Command::Unknown),
-    ("call 0", Command::Call(0)),
-    ("call 17", Command::Call(17)),
-    ("call", Command::Unknown),
-    ("", Command::Unknown),
+const LINES: [(&str, ControlCommand); 24] = [
+    ("stop 0", ControlCommand::Stop(0)),
+    ("stop 30", ControlCommand::Stop(30)),
+    ("stop 86400", ControlCommand::Stop(86_400)),
+    ("stop 86401", ControlCommand::Unknown),
+    ("stop 030", ControlCommand::Unknown),
+    ("stop", ControlCommand::Unknown),
+    ("stop ", ControlCommand::Unknown),
+    ("reload", ControlCommand::Reload),
+    ("reload ", ControlCommand::Unknown),
+    ("stats", ControlCommand::Stats),
+    ("GET /metrics HTTP/1.1", ControlCommand::Metrics),
+    ("GET", ControlCommand::Unknown),
+    ("get / HTTP/1.1", ControlCommand::Unknown),
+    ("calls", ControlCommand::Calls(0)),
+    ("calls 0", ControlCommand::Calls(0)),
+    ("calls 256", ControlCommand::Calls(256)),
+    ("calls ", ControlCommand::Unknown),
+    ("calls 0256", ControlCommand::Unknown),
+    ("calls 18446744073709551615", ControlCommand::Calls(u64::MAX)),
+    ("calls 18446744073709551616", ControlCommand::Unknown),
+    ("call 0", ControlCommand::Call(0)),
+    ("call 17", ControlCommand::Call(17)),
+    ("call", ControlCommand::Unknown),
+    ("", ControlCommand::Unknown),
 ];
 
 #[test]

@@ -1,6 +1,6 @@
 //! A control socket answers lines until the end, whatever other clients do.
 use crate::holds::holds;
-use fork_control::{Controlled, listen, tell};
+use fork_control::{ControlHandler, listen, tell};
 use std::alloc::Global;
 use std::fs::Files;
 use std::io::{ErrorKind, Read, Write};
@@ -24,7 +24,7 @@ struct Program {
     state: AtomicU64,
 }
 
-impl Controlled for Program {
+impl ControlHandler for Program {
     fn stop(&self, seconds: u64) {
         self.state.store(seconds, Ordering::SeqCst);
     }

@@ -1,6 +1,6 @@
 //! Jobs of a group of calls wait for the worker that is on it, and come in order.
 use crate::holds::holds;
-use call_groups::{Group, MOST_WAITING, Room, jobs_come_in_order};
+use call_groups::{CallGroup, MOST_WAITING, WaitingRoom, jobs_come_in_order};
 
 /// What becomes of a job that a worker receives.
 #[derive(Clone, Copy, PartialEq, Eq)]
@@ -23,7 +23,7 @@ enum Act {
 }
 
 /// A worker receives a job, and enters the group with it or hands it over.
-fn receive(group: &mut Group<u32>, job: u32) -> Fate {
+fn receive(group: &mut CallGroup<u32>, job: u32) -> Fate {
     if group.enter() {
         Fate::Enters
     } else if group.hand_over(job).is_ok() {
@@ -34,7 +34,7 @@ fn receive(group: &mut Group<u32>, job: u32) -> Fate {
 }
 
 /// Whether a group answers so.
-fn is_so(group: &mut Group<u32>, act: Act) -> bool {
+fn is_so(group: &mut CallGroup<u32>, act: Act) -> bool {
     match act {
         Act::Receive(job, expected) => receive(group, job) == expected,
         Act::Next(expected) => group.next() == expected,
@@ -42,7 +42,7 @@ fn is_so(group: &mut Group<u32>, act: Act) -> bool {
 }
 
 /// Whether a group answers so, one act after another.
-fn plays(group: &mut Group<u32>, history: &[Act]) -> bool {
+fn plays(group: &mut CallGroup<u32>, history: &[Act]) -> bool {
     let mut is_well = true;
     for act in history {
         is_well = is_so(group, *act) && is_well;
@@ -53,7 +53,7 @@ fn plays(group: &mut Group<u32>, history: &[Act]) -> bool {
 #[test]
 fn one_worker_at_a_time_is_on_a_group(rt: HostRuntime) {
     jobs_come_in_order::<u32>();
-    let mut group = Group::new(rt.alloc());
+    let mut group = CallGroup::new(rt.alloc());
     let well = plays(
         &mut group,
         &[
@@ -74,7 +74,7 @@ fn one_worker_at_a_time_is_on_a_group(rt: HostRuntime) {
 
 #[test]
 fn no_more_than_1_024_jobs_wait(rt: HostRuntime) {
-    let mut group = Group::new(rt.alloc());
+    let mut group = CallGroup::new(rt.alloc());
     let entered = receive(&mut group, 0) == Fate::Enters;
     holds(&rt, entered && !group.is_full(), "nothing waits at first");
     let mut waiting = 0usize;
@@ -110,7 +110,7 @@ enum Use {
 }
 
 /// Whether a room answers so.
-fn answers(room: &mut Room, done: Use) -> bool {
+fn answers(room: &mut WaitingRoom, done: Use) -> bool {
     match done {
         Use::Take(bytes, expected) => room.take(bytes) == expected,
         Use::GiveBack(bytes) => {
@@ -122,7 +122,7 @@ fn answers(room: &mut Room, done: Use) -> bool {
 
 #[test]
 fn a_room_gives_what_it_has(rt: HostRuntime) {
-    let mut room = Room::new(10);
+    let mut room = WaitingRoom::new(10);
     let mut is_well = true;
     for done in [
         Use::Take(11, false),

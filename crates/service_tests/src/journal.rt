@@ -1,14 +1,11 @@
 //! What is written down of a call.
 use crate::holds::holds;
-use call_journal::{
-    BranchTimes, CallShown, Happening, Head, Note, append_branch_line, append_call,
-    append_call_line, failed_calls_are_listed_right, heads_are_lines, reasons_are_right, since,
-};
+use call_journal::{BranchTimes, CallRecord, CallShown, Note, NotedEvent, append_branch_line, append_call, append_call_line, failed_calls_are_listed_right, heads_are_lines, reasons_are_right, since};
 use fork_context::{Answer, Context, Event, Kind, Target};
 use fork_rank::{RingStatus, Rules, Status};
 use std::alloc::Global;
 
-const HEAD: Head<'static> = Head {
+const HEAD: CallRecord<'static> = CallRecord {
     time: 1_764_279_600,
     number: 17,
     method: b"INVITE",
@@ -241,7 +238,7 @@ fn have_lines(alloc: Global, events: &[(u16, u16)], lines: &str) -> bool {
 }
 
 /// A note of target 0.
-fn note(what: Happening, at: u64) -> Note {
+fn note(what: NotedEvent, at: u64) -> Note {
     Note {
         target: 0,
         what,
@@ -270,9 +267,9 @@ fn each_target_has_a_line_of_what_it_did(rt: HostRuntime) {
         holds(&rt, have_lines(rt.alloc(), events, lines), lines);
     }
     let notes = [
-        note(Happening::Rang(180), 120),
-        note(Happening::Cancelled, 15_000),
-        note(Happening::Answered(487), 15_020),
+        note(NotedEvent::Rang(180), 120),
+        note(NotedEvent::Cancelled, 15_000),
+        note(NotedEvent::Answered(487), 15_020),
     ];
     let line = "target 0 rang 180 at 120, cancelled at 15000, 487 at 15020\n";
     holds(&rt, are_lines(rt.alloc(), &notes, line), line);

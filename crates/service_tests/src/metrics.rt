@@ -1,20 +1,17 @@
 //! Counters and histograms as text.
 use crate::holds::holds;
-use proxy_metrics::{
-    Bucket, Family, Histogram, Kind, Labelled, Metric, append_family, append_histogram,
-    append_metrics, class_of,
-};
+use proxy_metrics::{Family, Histogram, HistogramClass, Labelled, Metric, MetricKind, append_family, append_histogram, append_metrics, class_of};
 use std::alloc::Global;
 
 const METRICS: [Metric<'static>; 2] = [
     Metric {
         name: b"forkproxy_calls",
-        kind: Kind::Gauge,
+        kind: MetricKind::Gauge,
         value: 7,
     },
     Metric {
         name: b"forkproxy_calls_opened_total",
-        kind: Kind::Counter,
+        kind: MetricKind::Counter,
         value: 18_446_744_073_709_551_615,
     },
 ];
@@ -22,12 +19,12 @@ const METRICS: [Metric<'static>; 2] = [
 const METRICS_TEXT: &[u8] =
     b"# TYPE forkproxy_calls gauge\nforkproxy_calls 7\n# TYPE forkproxy_calls_opened_total counter\nforkproxy_calls_opened_total 18446744073709551615\n";
 
-const BUCKETS: [Bucket; 2] = [
-    Bucket {
+const BUCKETS: [HistogramClass; 2] = [
+    HistogramClass {
         bound: 100,
         count: 3,
     },
-    Bucket {
+    HistogramClass {
         bound: 500,
         count: 4,
     },
@@ -38,7 +35,7 @@ const HISTOGRAM_TEXT: &[u8] =
 
 const FAMILY: Family<'static> = Family {
     name: b"failed",
-    kind: Kind::Counter,
+    kind: MetricKind::Counter,
     label: b"class",
     values: &[
         Labelled {

@@ -1,11 +1,6 @@
 //! What a service is made of below its threads.
 use crate::holds::holds;
-use daemon_parts::{
-    Counts, DaemonFault, Gauges, Identity, Marks, Places, ProxyFiles, Sent, Socket, UnobeyedLine,
-    calls_within, configuration_fault, control_fault, group_limit, is_keep_alive, journal_fault,
-    memory_total, metrics_fault, most_calls_here, read_again, read_setup, read_text,
-    resident_bytes, resident_pages, socket_fault,
-};
+use daemon_parts::{CallQuota, Counts, DaemonFault, Gauges, Identity, Marks, ProxyFiles, SendOutcome, Socket, UnobeyedLine, calls_within, configuration_fault, control_fault, group_limit, is_keep_alive, journal_fault, memory_total, metrics_fault, most_calls_here, read_setup, read_text, resident_bytes, resident_pages, socket_fault};
 use sip_uri::{Hop, Transport};
 use sip_via::Own;
 use std::alloc::{AllocError, Global};
@@ -138,15 +133,6 @@ fn a_fault_of_the_system_is_told(rt: HostRuntime) {
 /// A file in the folder in which the test runs.
 const FILE: &str = "daemon_parts_test_config";
 
-/// Why a proxy of this instance, which was started as run `RUN`, does not read its file anew, if it does not.
-fn read_by<R: ProxyFiles>(rt: &R, alloc: Global, instance: u32) -> Option<DaemonFault> {
-    let identity = Identity { own: OWN, instance };
-    match read_again(rt, alloc, FILE, RUN, identity) {
-        Ok(_) => None,
-        Err(fault) => Some(fault),
-    }
-}
-
 /// Why a proxy is not started by the file, if it is not.
 fn started_by<R: ProxyFiles>(rt: &R, alloc: Global) -> Option<DaemonFault> {
     match read_setup(rt, alloc, FILE, RUN) {
@@ -156,31 +142,15 @@ fn started_by<R: ProxyFiles>(rt: &R, alloc: Global) -> Option<DaemonFault> {
 }
 
 #[test]
-fn a_file_is_read_anew(rt: HostRuntime) {
+fn a_file_is_read(rt: HostRuntime) {
     let alloc = rt.alloc();
     let _ = fs::remove_file(&rt, FILE);
-    let missed = read_by(&rt, alloc, 7);
+    let missed = started_by(&rt, alloc);
     holds(&rt, missed == Some(DaemonFault::Unreadable), "no file");
-    for (text, instance, fault, what) in [
-        (CONFIGURATION, 7, None, "it is taken"),
-        (
-            CONFIGURATION,
-            8,
-            Some(DaemonFault::Identity),
-            "another instance",
-        ),
-        (WITHOUT_INSTANCE, RUN, None, "the instance of the run"),
-        (
-            WITHOUT_INSTANCE,
-            7,
-            Some(DaemonFault::Identity),
-            "another run",
-        ),
-    ] {
+    for text in [CONFIGURATION, WITHOUT_INSTANCE] {
         holds(&rt, fs::write(&rt, FILE, text).is_ok(), "it is written");
-        holds(&rt, read_by(&rt, alloc, instance) == fault, what);
+        holds(&rt, started_by(&rt, alloc).is_none(), "it starts a proxy");
     }
-    holds(&rt, started_by(&rt, alloc).is_none(), "it starts a proxy");
     let _ = fs::remove_file(&rt, FILE);
 }
 
@@ -301,7 +271,7 @@ fn a_call_is_marked_once(rt: HostRuntime) {
 
 /// Whether two places are kept, a third for a request within a dialog alone, and one more only once two are given back.
 fn are_kept() -> bool {
-    let mut places = Places::new(2);
+    let mut places = CallQuota::new(2);
     let kept = places.keep() && places.keep() && !places.keep();
     let beyond = places.keep_within_dialog() && !places.keep_within_dialog();
     places.give_back();
@@ -329,7 +299,7 @@ fn comes_back<R: Net>(rt: &R) -> bool {
     };
     let mut buffer = [0u8; 16];
     let is_empty = !socket.has_waiting();
-    if socket.send(b"one", AT) != Sent::Whole || !socket.has_waiting() {
+    if socket.send(b"one", AT) != SendOutcome::Whole || !socket.has_waiting() {
         return false;
     }
     let Ok(Some((3, source))) = socket.receive(&mut buffer) else {

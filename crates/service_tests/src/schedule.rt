@@ -1,6 +1,6 @@
 //! A schedule gives each call whose deadline has come, once, and wakes who sleeps.
 use crate::holds::holds;
-use fork_clock::{Epoch, Schedule, Watch};
+use fork_clock::{Epoch, Schedule, ThreadClock};
 use std::alloc::Global;
 use std::sync::Wait;
 use std::test::Fail;
@@ -35,7 +35,7 @@ fn what_is_due_comes_first_and_once(rt: HostRuntime) -> Result<(), Fail> {
 }
 
 /// Whether a sleep until a late moment ends within a second.
-fn wakes<R: Wait + Clock>(rt: &R, schedule: &Schedule<Global>, watch: &mut Watch) -> bool {
+fn wakes<R: Wait + Clock>(rt: &R, schedule: &Schedule<Global>, watch: &mut ThreadClock) -> bool {
     let before = watch.micros(rt);
     schedule.sleep_until(rt, before, LATE);
     watch.micros(rt).saturating_sub(before) < 1_000_000
@@ -45,7 +45,7 @@ fn wakes<R: Wait + Clock>(rt: &R, schedule: &Schedule<Global>, watch: &mut Watch
 fn a_sleep_ends_where_it_must(rt: HostRuntime) -> Result<(), Fail> {
     let epoch = Epoch::now(&rt).ok_or("no clock")?;
     let schedule = Schedule::new(rt.alloc())?;
-    let mut watch = Watch::new(epoch);
+    let mut watch = ThreadClock::new(epoch);
     schedule.sleep_until(&rt, watch.micros(&rt), 20);
     holds(&rt, watch.micros(&rt) >= 20_000, "it lasts as long as that");
     schedule.wake();
@@ -68,7 +68,7 @@ fn adds<R: Wait + Clock>(rt: &R, schedule: &Schedule<Global>) -> bool {
 fn an_earlier_deadline_ends_the_sleep(rt: HostRuntime) -> Result<(), Fail> {
     let epoch = Epoch::now(&rt).ok_or("no clock")?;
     let schedule = Schedule::new(rt.alloc())?;
-    let mut watch = Watch::new(epoch);
+    let mut watch = ThreadClock::new(epoch);
     let _ = schedule.add(&rt, 2, LATE);
     let both = join(
         &rt,

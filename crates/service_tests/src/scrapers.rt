@@ -1,6 +1,6 @@
 //! The counters as a page of HTTP, whatever other scrapers do.
 use crate::holds::holds;
-use metrics_page::{Counted, PageKind, PageSockets, answer_scrapers, page_kind};
+use metrics_page::{MetricsSource, PageKind, PageSockets, answer_scrapers, page_kind};
 use std::alloc::Global;
 use std::io;
 use std::io::{ErrorKind, Read, Write};
@@ -33,7 +33,7 @@ struct Program {
     ended: AtomicBool,
 }
 
-impl Counted for Program {
+impl MetricsSource for Program {
     fn counters(&self) -> io::Result<Vec<u8>> {
         Ok(Vec::from_slice(self.alloc, b"calls 0\n")?)
     }

@@ -1,7 +1,7 @@
 //! Sockets that one thread waits for together.
 use crate::holds::holds;
 use libc::net;
-use socket_poll::{Came, MOST_CLIENTS, Polled, is_gone, place_of_first, wait_for};
+use socket_poll::{MOST_CLIENTS, Polled, PolledEvents, is_gone, place_of_first, wait_for};
 use std::io;
 use std::io::Write;
 use std::net::Net;
@@ -58,7 +58,7 @@ fn new_ends<R: Net>(rt: &R) -> io::Result<Ends> {
 }
 
 /// Whether exactly this came of the listener and of each of two clients.
-fn is_told(came: Option<Came>, listener: i16, first: i16, second: i16) -> bool {
+fn is_told(came: Option<PolledEvents>, listener: i16, first: i16, second: i16) -> bool {
     match came {
         Some(came) => {
             came.of_listener() == listener

@@ -16,7 +16,7 @@ pub use Rattle.sip_lex.specs.Cut.{cut}
 pub use Rattle.sip_lex.specs.Line.{ended}
 pub use Rattle.sip_lex.specs.Number.{number_within, begins_with_zero}
 pub use Rattle.sip_lex.specs.Outside.{pieces_from}
-pub use Rattle.sip_lex.specs.declared.sheltered.Place.TheVariants.{Plain}
+pub use Rattle.sip_lex.specs.declared.sheltered.ShelterState.TheVariants.{Plain}
 pub use Rattle.sip_lex.specs.declared.sheltered.Shelter.TheVariants.{Quotes}
 pub use Rattle.sip_route.specs.Hops.{hops_name}
 pub use Rattle.sip_route.specs.Loop.{number_text}

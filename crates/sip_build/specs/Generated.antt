@@ -1,6 +1,6 @@
 -- The proxy's own responses (RFC 3261 sections 8.2.6, 16.3 and 21).
 use Rattle.std.specs.Prelude.{ℕ, Bool, false, List, [], ◌∷◌, ◌++◌, map, codes, is_none, if◌then◌else◌}
-use Rattle.sip_text.specs.declared.needed.Needed.TheVariants.{To}
+use Rattle.sip_text.specs.declared.needed.MandatoryHeader.TheVariants.{To}
 use Rattle.sip_text.specs.Fields.{value_of}
 use Rattle.sip_text.specs.Tag.{tag_in}
 use Rattle.sip_text.specs.Text.{HeaderText, MessageText, Response}

@@ -1,6 +1,6 @@
 -- The ACK for a failure and the CANCEL of a request that was sent (RFC 3261 sections 9.1 and 17.1.1.3, RFC 3326).
 use Rattle.std.specs.Prelude.{ℕ, List, [], ◌∷◌, ◌++◌, codes}
-use Rattle.sip_text.specs.declared.needed.Needed.TheVariants.{From, To}
+use Rattle.sip_text.specs.declared.needed.MandatoryHeader.TheVariants.{From, To}
 use Rattle.sip_text.specs.Fields.{value_of}
 use Rattle.sip_text.specs.Text.{HeaderText, MessageText, Request}
 use Rattle.sip_uri.specs.Uri.{Uri}

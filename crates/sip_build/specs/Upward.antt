@@ -3,7 +3,7 @@ use Rattle.std.specs.Prelude.{◌≡◌, ℕ, Bool, true, List, ◌++◌, map, O
 use Rattle.std.specs.List.{list_all}
 use Rattle.fork_model.specs.Table as table
 use Rattle.sip_lex.specs.declared.sheltered.Shelter.TheVariants.{Quotes}
-use Rattle.sip_lex.specs.declared.sheltered.Place.TheVariants.{Plain}
+use Rattle.sip_lex.specs.declared.sheltered.ShelterState.TheVariants.{Plain}
 use Rattle.sip_lex.specs.Bytes.{trim}
 use Rattle.sip_lex.specs.Sheltered.{cut_outside}
 use Rattle.sip_text.specs.Message.{is_value}

@@ -21,7 +21,7 @@ use itoa::Buffer;
 use sip_lex::read_number;
 use sip_text::{HeaderLines, Message, StartLine};
 use sip_uri::SipUri;
-use sip_via::{BranchName, Own, place_of};
+use sip_via::{BranchName, Own, header_index};
 use std::alloc::{AllocError, Allocator};
 
 const MAX_FORWARDS: &[u8] = b"max-forwards";
@@ -122,7 +122,7 @@ pub fn write_forwarded<A: Allocator + Clone, B: Allocator>(
         → IsOk result }
 {
     let headers = message.headers();
-    let place = place_of(headers, MAX_FORWARDS);
+    let place = header_index(headers, MAX_FORWARDS);
     let mut buffer = Buffer::new();
     let hops = buffer
         .format(hops_left(value_at(headers, place)))

@@ -9,7 +9,7 @@ ghost use Rattle.sip_build.specs.Generated.{timestamp_lines};
 ghost use Rattle.sip_build.specs.Requests.{reason_lines};
 
 use sip_text::{HeaderLine, Message};
-use sip_via::{first_named, split_named};
+use sip_via::{first_header, headers_around};
 use std::alloc::{AllocError, Allocator};
 
 /// The first Timestamp line of a request as it stands, which a 100 to the request takes (RFC 3261 section 8.2.6.1); `None` where it
@@ -19,7 +19,7 @@ pub fn first_timestamp<A: Allocator>(message: &Message<A>) -> Option<HeaderLine<
     ensures good { list_all is_header (view_if_any result) ≡ true }
 {
     message.is_message();
-    first_named(message, b"timestamp")
+    first_header(message, b"timestamp")
 }
 
 /// The Reason lines of a message as they stand, in order: those of a CANCEL, for the CANCELs that it brings about (RFC 3326).
@@ -37,7 +37,7 @@ pub fn reason_lines<A: Allocator, B: Allocator>(
     message.is_message();
     let mut lines = Vec::new(alloc);
     let mut rest = message.headers();
-    while let Some((line, after)) = split_named(rest, b"reason") {
+    while let Some((line, after)) = headers_around(rest, b"reason") {
         lines.push(line)?;
         rest = after;
     }

@@ -11,18 +11,18 @@ ghost use Rattle.sip_build.specs.inner.HeaderRuns.{all_lines, lines_of};
 ghost use Rattle.sip_build.specs.OwnTag.{own_tag};
 
 use crate::made_text::{Front, append_made};
-use crate::responses::{OwnStatus, gets_tag};
+use crate::responses::{OwnStatus, has_tag_added};
 use crate::runs::{HeaderRun, Pick};
 use crate::tag::own_tag;
 use sip_text::{HeaderLine, Message};
-use sip_via::first_named;
+use sip_via::first_header;
 use std::alloc::{AllocError, Allocator};
 
 /// The first header line of that name as it stands.
 fn first_run<'a, A: Allocator>(message: &'a Message<A>, name: &[u8]) -> HeaderRun<'a, A>
     ensures { lines_of result ≡ first_line name.now message.now }
 {
-    match first_named(message, name) {
+    match first_header(message, name) {
         None => HeaderRun::NoLine,
         Some(line) => HeaderRun::Line(line.name, line.value),
     }
@@ -32,7 +32,7 @@ fn first_run<'a, A: Allocator>(message: &'a Message<A>, name: &[u8]) -> HeaderRu
 fn tagged_run<'a, A: Allocator>(message: &'a Message<A>, tag: &'a [u8]) -> HeaderRun<'a, A>
     ensures { lines_of result ≡ map (tagged tag.now) (first_line (codes "to") message.now) }
 {
-    match first_named(message, b"to") {
+    match first_header(message, b"to") {
         None => HeaderRun::NoLine,
         Some(line) => HeaderRun::Joined(line.name, line.value, b";tag=", tag),
     }
@@ -42,7 +42,7 @@ fn tagged_run<'a, A: Allocator>(message: &'a Message<A>, tag: &'a [u8]) -> Heade
 fn tag_if_added<A: Allocator>(message: &Message<A>, status: OwnStatus) -> [u8; 18]
     ensures { gets_tag status message.now ≡ true → result ≡ own_tag message.now }
 {
-    if gets_tag(status, message) {
+    if has_tag_added(status, message) {
         own_tag(message)
     } else {
         [0; 18]
@@ -58,7 +58,7 @@ fn to_run<'a, A: Allocator>(
     requires { gets_tag status message.now ≡ true → tag.now ≡ own_tag message.now }
     ensures { lines_of result ≡ to_lines status message.now }
 {
-    if gets_tag(status, message) {
+    if has_tag_added(status, message) {
         tagged_run(message, tag)
     } else {
         first_run(message, b"to")
@@ -109,7 +109,7 @@ fn generated_runs<'a, A: Allocator>(
 ///
 /// Only where the growth of `out`, by as many bytes as the text has, is refused; `out` is then
 /// unchanged.
-pub fn write_generated<A: Allocator, B: Allocator>(
+pub fn write_own_response<A: Allocator, B: Allocator>(
     message: &Message<A>,
     status: OwnStatus,
     further: &[HeaderLine<'_>],

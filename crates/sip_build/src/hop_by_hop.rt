@@ -30,12 +30,12 @@ use sip_via::{BranchName, Own, first_value};
 use std::alloc::{AllocError, Allocator};
 
 /// Shows that the numbers of the proxy's address are bounded.
-fn is_own(own: Own)
+fn fact_own(own: Own)
     ensures { IsOwn own }
 {}
 
 /// Shows that the numbers of a branch are bounded.
-fn is_branch(name: BranchName)
+fn fact_branch(name: BranchName)
     ensures { IsBranch name }
 {}
 
@@ -160,8 +160,8 @@ pub fn write_forwarded_ack<A: Allocator + Clone, B: Allocator>(
         → vec_len out.old + length (spelling (ack_of (forwarded message.now target.now own branch.now recorded) response.now)) ≤ vec_capacity out.old
         → IsOk result }
 {
-    is_own(own);
-    is_branch(*branch);
+    fact_own(own);
+    fact_branch(*branch);
     ack_of_a_forwarded_request();
     let to = first_value(response, b"to");
     append_to_same_hop(out, b"ACK", message, target, own, branch, to, &[])
@@ -191,8 +191,8 @@ pub fn write_forwarded_cancel<A: Allocator + Clone, B: Allocator>(
         → vec_len out.old + length (spelling (cancel_of (forwarded message.now target.now own branch.now recorded) (view_lines reasons.now))) ≤ vec_capacity out.old
         → IsOk result }
 {
-    is_own(own);
-    is_branch(*branch);
+    fact_own(own);
+    fact_branch(*branch);
     cancel_of_a_forwarded_request();
     let to = first_value(message, b"to");
     append_to_same_hop(out, b"CANCEL", message, target, own, branch, to, reasons)

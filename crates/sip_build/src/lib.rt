@@ -28,13 +28,13 @@ pub use challenges::challenge_name;
 pub use dialogs::opens_dialog;
 pub use forwarded_text::write_forwarded;
 pub use further::{first_timestamp, reason_lines};
-pub use generated_text::write_generated;
+pub use generated_text::write_own_response;
 pub use hop_by_hop::{write_forwarded_ack, write_forwarded_cancel};
 pub use law::{
     ack_of_a_forwarded_request, cancel_of_a_forwarded_request, stripping_keeps_answers,
     stripping_keeps_timestamps,
 };
 pub use own_route::write_own_route;
-pub use responses::{OwnStatus, gets_tag};
+pub use responses::{OwnStatus, has_tag_added};
 pub use tag::own_tag;
-pub use upward_text::write_upward;
+pub use upward_text::write_forwarded_response;

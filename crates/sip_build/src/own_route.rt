@@ -11,7 +11,7 @@ use sip_via::Own;
 use std::alloc::{AllocError, Allocator};
 
 /// Shows that the numbers of the proxy's address are bounded.
-fn is_own(own: Own)
+fn fact_own(own: Own)
     ensures { IsOwn own }
 {}
 
@@ -40,7 +40,7 @@ pub fn write_own_route<B: Allocator>(own: Own, out: &mut Vec<u8, B>) -> Result<(
     ensures room { vec_len out.old + length (own_route own) ≤ vec_capacity out.old → IsOk result }
     ensures good { is_value (own_route own) ≡ true }
 {
-    is_own(own);
+    fact_own(own);
     let mut text = [0; 35];
     let end = place_own_route(&mut text, own);
     out.extend_from_slice(&text[..end])

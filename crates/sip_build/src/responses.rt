@@ -100,7 +100,7 @@ impl OwnStatus {
 
 /// Whether a response of that status to a request has the proxy's own tag added to its To: where the To has none, but for a
 /// 100 (RFC 3261 section 8.2.6.2).
-pub fn gets_tag<A: Allocator>(status: OwnStatus, message: &Message<A>) -> bool
+pub fn has_tag_added<A: Allocator>(status: OwnStatus, message: &Message<A>) -> bool
     ensures { result ≡ gets_tag status message.now }
 {
     match status {

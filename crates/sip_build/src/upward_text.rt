@@ -19,7 +19,7 @@ use crate::runs::{HeaderRun, Pick, run_if_any};
 use fork_rank::Challenge;
 use sip_lex::{Shelter, cut_outside, trim};
 use sip_text::{HeaderLines, Message, StartLine};
-use sip_via::{BuildFault, has_second_via, place_of};
+use sip_via::{BuildFault, has_second_via, header_index};
 use std::alloc::{AllocError, Allocator};
 
 const VIA: &[u8] = b"via";
@@ -48,7 +48,7 @@ fn replaced_runs<'a, A: Allocator>(
     ensures { all_lines result
         ≡ replaced (codes "via") (option_copied others.entry) (views headers.entry) ++ map challenge_line challenges.now }
 {
-    let (front, back) = headers.split_at(place_of(headers, VIA));
+    let (front, back) = headers.split_at(header_index(headers, VIA));
     let front = HeaderRun::Kept(front);
     let last = HeaderRun::Challenges(challenges);
     let Some((top, after)) = back.split_first() else {
@@ -80,7 +80,7 @@ fn exchanged_runs<'a, A: Allocator>(
     ensures { lines_of result.0 ++ (lines_of result.1 ++ lines_of result.2)
         ≡ exchanged (codes "contact") (contact_lines (texts kept.now)) (views headers.entry) }
 {
-    let (front, back) = headers.split_at(place_of(headers, CONTACT));
+    let (front, back) = headers.split_at(header_index(headers, CONTACT));
     let others = HeaderRun::Picked(back, Pick::Others(CONTACT));
     (HeaderRun::Kept(front), HeaderRun::Contacts(kept), others)
 }
@@ -97,7 +97,7 @@ fn kept_runs<'a, A: Allocator>(
         ≡ exchanged (codes "contact") (contact_lines (texts kept.now)) (replaced (codes "via") (option_copied others.entry) (views headers.entry))
         ++ map challenge_line challenges.now }
 {
-    let (front, back) = headers.split_at(place_of(headers, VIA));
+    let (front, back) = headers.split_at(header_index(headers, VIA));
     let last = HeaderRun::Challenges(challenges);
     let Some((top, after)) = back.split_first() else {
         let (first, contacts, rest) = exchanged_runs(front, kept);
@@ -111,7 +111,7 @@ fn kept_runs<'a, A: Allocator>(
         ];
     };
     let top = run_if_any(top.name, others);
-    if place_of(front, CONTACT) < front.len() {
+    if header_index(front, CONTACT) < front.len() {
         let (first, contacts, rest) = exchanged_runs(front, kept);
         let after = HeaderRun::Picked(after, Pick::Others(CONTACT));
         [first, contacts, rest, top, after, last]
@@ -175,7 +175,7 @@ fn append_upward<A: Allocator, B: Allocator>(
 ///
 /// `LastVia` where no other Via value is there, and there alone; else `NoMemory`, only where the growth
 /// of `out`, by as many bytes as the text has, is refused. `out` is then unchanged.
-pub fn write_upward<A: Allocator, B: Allocator>(
+pub fn write_forwarded_response<A: Allocator, B: Allocator>(
     message: &Message<A>,
     kept: Option<&[&[u8]]>,
     challenges: &[Challenge<A>],

@@ -13,8 +13,8 @@ pub use Rattle.sip_lex.specs.Cut.{Lacks, behind, cut, is}
 pub use Rattle.sip_lex.specs.Outside.{pieces_outside_behind}
 pub use Rattle.sip_lex.specs.Quoted.{IsInside, IsQuoted, quoted_at}
 pub use Rattle.sip_lex.specs.Sheltered.{LacksOutside, cut_outside, end_place, place_after}
-pub use Rattle.sip_lex.specs.declared.sheltered.Place.{Place}
-pub use Rattle.sip_lex.specs.declared.sheltered.Place.TheVariants.{Plain, Quoted, Escaped}
+pub use Rattle.sip_lex.specs.declared.sheltered.ShelterState.{ShelterState}
+pub use Rattle.sip_lex.specs.declared.sheltered.ShelterState.TheVariants.{Plain, Quoted, Escaped}
 pub use Rattle.sip_lex.specs.declared.sheltered.Shelter.TheVariants.{Quotes}
 pub use Rattle.sip_text.specs.Text.{pieces_text}
 pub use Rattle.sip_digest.specs.AuthParam.{AuthParam, HasNoElement, IsAuthValue, IsElement, IsListed, unescaped}

@@ -3,8 +3,8 @@ use Rattle.sip_digest.proofs.Common.{◌≡◌, ℕ, Bool, true, false, cond, Li
 use Rattle.sip_digest.proofs.Common.{AuthParam, Credentials, IsOfRealm, credentials_in, credentials_of, first_named, named_in, behind_scheme, is_text, list_of_realm, read_list}
 use Rattle.std.proofs.Common.{Result, Ok, Err}
 use Rattle.std.specs.Prelude.{IfOk}
-use Rattle.sip_digest.specs.declared.reading.Reading.{Reading}
-use Rattle.sip_digest.specs.declared.reading.Reading.TheVariants as reading
+use Rattle.sip_digest.specs.declared.reading.ReadCredentials.{ReadCredentials}
+use Rattle.sip_digest.specs.declared.reading.ReadCredentials.TheVariants as reading
 use Rattle.sip_digest.specs.SeenCredentials.{IsReadingOf, seen_credentials, seen_reading}
 use Rattle.sip_digest.specs.inner.Reading.{read_credentials}
 use Rattle.sip_digest.proofs.Listed.{is_listed, listed_again}
@@ -80,7 +80,7 @@ whole_read value realm params true c is e = (params, is, e)
 whole_read value realm params false c is e = absurd cc
 
 module _ {A : Type 0} where
-  reading_of : (value realm : List ℕ) (r : Reading A) → seen_reading r ≡ read_credentials value realm → IsReadingOf value realm r
+  reading_of : (value realm : List ℕ) (r : ReadCredentials A) → seen_reading r ≡ read_credentials value realm → IsReadingOf value realm r
   reading_of value realm reading.OtherRealm e = λ params whole is. none_some (read_credentials value realm) (credentials_in params whole) (sym e) (of_realm_read value realm params whole is)
   reading_of value realm reading.Unreadable e = let f = read_found value realm None (sym e) in (f.params, f.whole, f.is, f.gives)
   reading_of value realm (reading.Read c) e =
@@ -88,11 +88,11 @@ module _ {A : Type 0} where
       whole_read value realm f.params f.whole (seen_credentials c) f.is f.gives
 
   module _ {E : Type 0} where
-    pub gives_found : (value realm : List ℕ) (r : Result (Reading A) E) → IfOk r (λ reading. seen_reading reading ≡ read_credentials value realm) → IfOk r (IsReadingOf value realm)
+    pub gives_found : (value realm : List ℕ) (r : Result (ReadCredentials A) E) → IfOk r (λ reading. seen_reading reading ≡ read_credentials value realm) → IfOk r (IsReadingOf value realm)
     gives_found value realm (Ok r) h = reading_of value realm r h
     gives_found value realm (Err e) h = tt
 
-    pub gives_only : (value realm : List ℕ) (r : Result (Reading A) E) → IfOk r (λ reading. seen_reading reading ≡ read_credentials value realm)
+    pub gives_only : (value realm : List ℕ) (r : Result (ReadCredentials A) E) → IfOk r (λ reading. seen_reading reading ≡ read_credentials value realm)
         → (params : List AuthParam) (whole : Bool) → IsOfRealm value realm params whole → IfOk r (λ reading. seen_reading reading ≡ Some (credentials_in params whole))
     gives_only value realm (Ok r) h params whole is = h ∙ of_realm_read value realm params whole is
     gives_only value realm (Err e) h params whole is = tt

@@ -1,5 +1,5 @@
 -- No comma stands outside the quotes of an element, and its quotes are closed.
-use Rattle.sip_digest.proofs.Common.{◌≡◌, ℕ, Bool, true, false, not, eqb, List, [], ◌∷◌, ◌++◌, refl, sym, ap, subst, ◌∙◌, arith, inl, inr, list_all, and_parts, is_space, is_token, trim, trim_start, Quotes, Place, Plain, Quoted, Escaped, LacksOutside, end_place, place_after, IsInside, IsQuoted}
+use Rattle.sip_digest.proofs.Common.{◌≡◌, ℕ, Bool, true, false, not, eqb, List, [], ◌∷◌, ◌++◌, refl, sym, ap, subst, ◌∙◌, arith, inl, inr, list_all, and_parts, is_space, is_token, trim, trim_start, Quotes, ShelterState, Plain, Quoted, Escaped, LacksOutside, end_place, place_after, IsInside, IsQuoted}
 use Rattle.sip_digest.proofs.Common.{AuthParam, IsAuthValue, IsElement, ◌&&◌}
 use Rattle.std.proofs.lemmas.Bool.{and_from}
 use Rattle.std.proofs.lemmas.List.Sums.{fold-append}
@@ -13,14 +13,14 @@ pub record Stays (bs : List ℕ) : Type 0 where
 
 -- ---- one text behind the other
 
-lacks_append : (place : Place) (xs ys : List ℕ) → LacksOutside Quotes 44 place xs → LacksOutside Quotes 44 (end_place Quotes place xs) ys → LacksOutside Quotes 44 place (xs ++ ys)
+lacks_append : (place : ShelterState) (xs ys : List ℕ) → LacksOutside Quotes 44 place xs → LacksOutside Quotes 44 (end_place Quotes place xs) ys → LacksOutside Quotes 44 place (xs ++ ys)
 lacks_append place [] ys h k = k
 lacks_append place (x ∷ xs) ys h k = (h.0, lacks_append (place_after Quotes place x) xs ys h.1 k)
 
 stays_append : (xs ys : List ℕ) → Stays xs → Stays ys → Stays (xs ++ ys)
 stays_append xs ys h k = record {
-  lacks = lacks_append Plain xs ys h.lacks (subst (λ (place : Place). LacksOutside Quotes 44 place ys) (sym h.ends) k.lacks);
-  ends = fold-append (place_after Quotes) Plain xs ys ∙ ap (λ (place : Place). end_place Quotes place ys) h.ends ∙ k.ends;
+  lacks = lacks_append Plain xs ys h.lacks (subst (λ (place : ShelterState). LacksOutside Quotes 44 place ys) (sym h.ends) k.lacks);
+  ends = fold-append (place_after Quotes) Plain xs ys ∙ ap (λ (place : ShelterState). end_place Quotes place ys) h.ends ∙ k.ends;
 }
 
 -- ---- bytes that are neither quote nor comma
@@ -38,8 +38,8 @@ bare_stays (b ∷ bs) h =
     let step = bare_step b parts.0 in
     let rest = bare_stays bs parts.1 in
     record {
-      lacks = (step.0, subst (λ (place : Place). LacksOutside Quotes 44 place bs) (sym step.1) rest.lacks);
-      ends = ap (λ (place : Place). end_place Quotes place bs) step.1 ∙ rest.ends;
+      lacks = (step.0, subst (λ (place : ShelterState). LacksOutside Quotes 44 place bs) (sym step.1) rest.lacks);
+      ends = ap (λ (place : ShelterState). end_place Quotes place bs) step.1 ∙ rest.ends;
     }
 
 all_bare : (p : ℕ → Bool) → ((b : ℕ) → p b ≡ true → is_bare b ≡ true) → (bs : List ℕ) → list_all p bs ≡ true → list_all is_bare bs ≡ true
@@ -71,7 +71,7 @@ trimmed_stays bs h =
 
 -- ---- quoted text
 
-abbrev place_in : Bool → Place
+abbrev place_in : Bool → ShelterState
 place_in true = Escaped
 place_in false = Quoted
 
@@ -95,8 +95,8 @@ inside_closes false (b ∷ inside) h =
     let step = quoted_step b h.0 in
     let rest = inside_closes (eqb b 92) inside h.1 in
     record {
-      lacks = (refl, subst (λ (place : Place). LacksOutside Quotes 44 place (inside ++ 34 ∷ [])) (sym step) rest.lacks);
-      ends = ap (λ (place : Place). end_place Quotes place (inside ++ 34 ∷ [])) step ∙ rest.ends;
+      lacks = (refl, subst (λ (place : ShelterState). LacksOutside Quotes 44 place (inside ++ 34 ∷ [])) (sym step) rest.lacks);
+      ends = ap (λ (place : ShelterState). end_place Quotes place (inside ++ 34 ∷ [])) step ∙ rest.ends;
     }
 
 quoted_stays : (inside : List ℕ) → IsInside false inside → Stays (34 ∷ (inside ++ 34 ∷ []))

@@ -8,7 +8,7 @@ use Rattle.sip_digest.specs.declared.algorithm.Algorithm.{Algorithm}
 use Rattle.sip_digest.specs.declared.algorithm.Algorithm.TheVariants.{Md5, Sha256}
 use Rattle.sip_digest.specs.declared.algorithm.Algorithms.{Algorithms}
 use Rattle.sip_digest.specs.declared.secrets.Secrets.{Secrets}
-use Rattle.sip_digest.specs.declared.verdict.Asked.{Asked}
+use Rattle.sip_digest.specs.declared.verdict.JudgedRequest.{JudgedRequest}
 use Rattle.sip_digest.specs.Algorithm.{is_among}
 use Rattle.sip_digest.specs.Credentials.{Credentials, Quality, Unsaid, Auth, Other}
 use Rattle.sip_digest.specs.Response.{protection_text, response_of}
@@ -57,7 +57,7 @@ pub record IsAnswered (algorithms : Algorithms) (secrets : Option Secrets) (meth
 
 -- ---- the whole
 
-pub record AreRight (secret : List ℕ) (algorithms : Algorithms) (secrets : Option Secrets) (asked : Asked) (c : Credentials) : Type 0 where
+pub record AreRight (secret : List ℕ) (algorithms : Algorithms) (secrets : Option Secrets) (asked : JudgedRequest) (c : Credentials) : Type 0 where
   pub nonce : IsGoodNonce secret asked.address.now asked.second c.nonce
   pub uri : IsUriOf c.uri asked.uri.now
   pub answered : IsAnswered algorithms secrets asked.method.now c

@@ -5,8 +5,8 @@ use Rattle.sip_digest.specs.declared.auth_text.AuthText.TheVariants as text
 use Rattle.sip_digest.specs.declared.credentials.Quality.{Quality}
 use Rattle.sip_digest.specs.declared.credentials.Quality.TheVariants as quality
 use Rattle.sip_digest.specs.declared.credentials.Credentials.{Credentials}
-use Rattle.sip_digest.specs.declared.reading.Reading.{Reading}
-use Rattle.sip_digest.specs.declared.reading.Reading.TheVariants as reading
+use Rattle.sip_digest.specs.declared.reading.ReadCredentials.{ReadCredentials}
+use Rattle.sip_digest.specs.declared.reading.ReadCredentials.TheVariants as reading
 use Rattle.sip_digest.specs.AuthParam.{AuthParam}
 use Rattle.sip_digest.specs.Credentials as spec
 
@@ -31,13 +31,13 @@ module _ {A : Type 0} where
   }
 
   -- none where they are not of the realm; of the realm, but cannot be read; the credentials
-  abbrev pub seen_reading : Reading A → Option (Option spec.Credentials)
+  abbrev pub seen_reading : ReadCredentials A → Option (Option spec.Credentials)
   seen_reading reading.OtherRealm = None
   seen_reading reading.Unreadable = Some None
   seen_reading (reading.Read c) = Some (Some (seen_credentials c))
 
   -- what a value gives is what the grammar has of it
-  abbrev pub IsReadingOf : (value realm : List ℕ) → Reading A → Type 0
+  abbrev pub IsReadingOf : (value realm : List ℕ) → ReadCredentials A → Type 0
   IsReadingOf value realm reading.OtherRealm = (params : List AuthParam) (whole : Bool) → spec.IsOfRealm value realm params whole → ⊥
   IsReadingOf value realm reading.Unreadable = (params : List AuthParam) × (whole : Bool) × spec.IsOfRealm value realm params whole × (spec.credentials_in params whole ≡ None)
   IsReadingOf value realm (reading.Read c) = (params : List AuthParam) × spec.IsOfRealm value realm params true × (spec.credentials_of (spec.named_in params) ≡ Some (seen_credentials c))

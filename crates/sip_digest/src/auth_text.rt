@@ -5,7 +5,7 @@ ghost use Rattle.sip_digest.specs.AuthParam.{unescaped};
 ghost use Rattle.sip_digest.specs.SeenCredentials.{seen_text};
 ghost use Rattle.sip_digest.specs.inner.SeenFields.{seen_value};
 
-use crate::element::Written;
+use crate::element::WrittenValue;
 use std::alloc::{AllocError, Allocator};
 
 /// A text of credentials without its quotes and escapes.
@@ -67,7 +67,7 @@ fn unquoted<A: Allocator>(alloc: A, inside: &[u8]) -> Result<AuthText<'_, A>, Al
 /// The value that is written so; memory is taken only where it has escapes.
 pub(crate) fn value_of<'a, A: Allocator>(
     alloc: A,
-    written: Written<'a>,
+    written: WrittenValue<'a>,
 ) -> Result<AuthText<'a, A>, AllocError>
     ensures { IfOk result (λ text. seen_text text ≡ seen_value written.entry) }
 {

@@ -9,7 +9,7 @@ ghost use Rattle.sip_digest.specs.inner.SeenFields.{seen_fields, seen_value};
 
 use crate::algorithm::Algorithm;
 use crate::auth_text::{AuthText, value_of};
-use crate::element::Written;
+use crate::element::WrittenValue;
 use crate::fields::Fields;
 use std::alloc::{AllocError, Allocator};
 
@@ -53,8 +53,8 @@ fn is_count(nc: &[u8]) -> bool
 fn protected<'a, A: Allocator + Clone>(
     alloc: &A,
     qop: AuthText<'a, A>,
-    nc: Option<Written<'a>>,
-    cnonce: Option<Written<'a>>,
+    nc: Option<WrittenValue<'a>>,
+    cnonce: Option<WrittenValue<'a>>,
 ) -> Result<Option<Quality<'a, A>>, AllocError>
     ensures { IfOk result (λ quality. option_map seen_quality quality
         ≡ protected (seen_text qop.entry) (option_map seen_value nc.entry) (option_map seen_value cnonce.entry)) }
@@ -76,9 +76,9 @@ fn protected<'a, A: Allocator + Clone>(
 /// The quality of protection; `None` where something that it needs is missing.
 fn quality_of<'a, A: Allocator + Clone>(
     alloc: &A,
-    qop: Option<Written<'a>>,
-    nc: Option<Written<'a>>,
-    cnonce: Option<Written<'a>>,
+    qop: Option<WrittenValue<'a>>,
+    nc: Option<WrittenValue<'a>>,
+    cnonce: Option<WrittenValue<'a>>,
 ) -> Result<Option<Quality<'a, A>>, AllocError>
     ensures { IfOk result (λ quality. option_map seen_quality quality
         ≡ quality_of (option_map seen_value qop.entry) (option_map seen_value nc.entry) (option_map seen_value cnonce.entry)) }
@@ -95,7 +95,7 @@ fn quality_of<'a, A: Allocator + Clone>(
 
 fn algorithm_of<A: Allocator>(
     alloc: A,
-    name: Option<Written<'_>>,
+    name: Option<WrittenValue<'_>>,
 ) -> Result<Option<Algorithm>, AllocError>
     ensures { IfOk result (λ algorithm. algorithm ≡ algorithm_of (option_map seen_value name.entry)) }
 {

@@ -9,16 +9,16 @@ use sip_lex::{cut_at, cut_quoted, is_token, trim};
 
 /// The value of a parameter: a token, or what stands inside quotes, as written.
 #[derive(Clone, Copy)]
-pub struct Written<'a> {
+pub struct WrittenValue<'a> {
     pub text: &'a [u8],
     pub is_quoted: bool,
 }
 
-fn read_quoted(text: &[u8]) -> Option<Written<'_>>
+fn read_quoted(text: &[u8]) -> Option<WrittenValue<'_>>
     ensures { option_map seen_value result ≡ whole_quoted (quoted_at text.now) }
 {
     match cut_quoted(text) {
-        Some((inside, [])) => Some(Written {
+        Some((inside, [])) => Some(WrittenValue {
             text: inside,
             is_quoted: true,
         }),
@@ -26,11 +26,11 @@ fn read_quoted(text: &[u8]) -> Option<Written<'_>>
     }
 }
 
-fn read_value(text: &[u8]) -> Option<Written<'_>>
+fn read_value(text: &[u8]) -> Option<WrittenValue<'_>>
     ensures { option_map seen_value result ≡ read_value text.now }
 {
     if is_token(text) {
-        return Some(Written {
+        return Some(WrittenValue {
             text,
             is_quoted: false,
         });
@@ -39,7 +39,7 @@ fn read_value(text: &[u8]) -> Option<Written<'_>>
 }
 
 /// The name and the value of a parameter; `None` where the text is none.
-pub(crate) fn read_element(element: &[u8]) -> Option<(&[u8], Written<'_>)>
+pub(crate) fn read_element(element: &[u8]) -> Option<(&[u8], WrittenValue<'_>)>
     ensures { option_map seen_param result ≡ read_element element.now }
 {
     match cut_at(element, b'=') {

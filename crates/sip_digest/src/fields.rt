@@ -3,28 +3,28 @@ ghost use Rattle.std.specs.Prelude.{◌≡◌, ◌∷◌, ◌<◌, [], length, f
 ghost use Rattle.std.specs.Option.{option_map};
 ghost use Rattle.std.specs.Str.{bytes_eq, str_to_ascii_lowercase};
 ghost use Rattle.sip_lex.specs.declared.sheltered.Shelter.TheVariants.{Quotes};
-ghost use Rattle.sip_lex.specs.declared.sheltered.Place.TheVariants.{Plain};
+ghost use Rattle.sip_lex.specs.declared.sheltered.ShelterState.TheVariants.{Plain};
 ghost use Rattle.sip_lex.specs.Cut.{seen_cut};
 ghost use Rattle.sip_lex.specs.Sheltered.{cut_outside};
 ghost use Rattle.sip_digest.specs.Credentials.{named_in};
 ghost use Rattle.sip_digest.specs.inner.Reading.{first_or, followed, param_of, read_list};
 ghost use Rattle.sip_digest.specs.inner.SeenFields.{seen_fields, seen_value};
 
-use crate::element::{Written, read_element};
+use crate::element::{WrittenValue, read_element};
 use sip_lex::{Shelter, cut_outside};
 
 /// The first value of each name that counts (RFC 7616 section 3.4).
 #[derive(Clone, Copy)]
 pub struct Fields<'a> {
-    pub username: Option<Written<'a>>,
-    pub realm: Option<Written<'a>>,
-    pub nonce: Option<Written<'a>>,
-    pub uri: Option<Written<'a>>,
-    pub response: Option<Written<'a>>,
-    pub algorithm: Option<Written<'a>>,
-    pub qop: Option<Written<'a>>,
-    pub nc: Option<Written<'a>>,
-    pub cnonce: Option<Written<'a>>,
+    pub username: Option<WrittenValue<'a>>,
+    pub realm: Option<WrittenValue<'a>>,
+    pub nonce: Option<WrittenValue<'a>>,
+    pub uri: Option<WrittenValue<'a>>,
+    pub response: Option<WrittenValue<'a>>,
+    pub algorithm: Option<WrittenValue<'a>>,
+    pub qop: Option<WrittenValue<'a>>,
+    pub nc: Option<WrittenValue<'a>>,
+    pub cnonce: Option<WrittenValue<'a>>,
     /// Whether the list was read to its end.
     pub is_whole: bool,
 }
@@ -49,11 +49,11 @@ fn no_fields<'a>() -> Fields<'a>
 
 /// The value of a field behind one more parameter: the first of its name counts.
 fn first_of<'a>(
-    field: Option<Written<'a>>,
+    field: Option<WrittenValue<'a>>,
     wanted: &[u8],
     name: &[u8],
-    value: Written<'a>,
-) -> Option<Written<'a>>
+    value: WrittenValue<'a>,
+) -> Option<WrittenValue<'a>>
     ensures { option_map seen_value result
         ≡ first_or (option_map seen_value field.entry)
         (if bytes_eq (str_to_ascii_lowercase name.now) (str_to_ascii_lowercase wanted.now) then Some (seen_value value.entry) else None) }
@@ -66,7 +66,7 @@ fn first_of<'a>(
 }
 
 /// The fields behind one more parameter.
-fn with_param<'a>(fields: &Fields<'a>, name: &[u8], value: Written<'a>) -> Fields<'a>
+fn with_param<'a>(fields: &Fields<'a>, name: &[u8], value: WrittenValue<'a>) -> Fields<'a>
     ensures fields { seen_fields result ≡ followed (seen_fields fields.now) (named_in (param_of name.now (seen_value value.entry) ∷ [])) }
     ensures part { result.is_whole ≡ false }
 {

@@ -9,14 +9,14 @@ ghost use Rattle.sip_digest.specs.inner.SeenFields.{seen_value};
 
 use crate::auth_text::value_of;
 use crate::credentials::{Credentials, credentials_of};
-use crate::element::Written;
+use crate::element::WrittenValue;
 use crate::fields::fields_of;
 use sip_lex::cut_at_space;
 use std::alloc::{AllocError, Allocator};
 
 /// What the value of an Authorization or Proxy-Authorization line is.
 #[derive(Drop)]
-pub enum Reading<'a, A: Allocator> {
+pub enum ReadCredentials<'a, A: Allocator> {
     /// No credentials of the scheme Digest for this realm.
     OtherRealm,
     /// Credentials for this realm, but with a fault, or without something that is needed.
@@ -44,7 +44,7 @@ fn behind_scheme(value: &[u8]) -> Option<&[u8]>
 /// Whether there is a value, and it is this text.
 fn is_text<A: Allocator>(
     alloc: A,
-    value: Option<Written<'_>>,
+    value: Option<WrittenValue<'_>>,
     text: &[u8],
 ) -> Result<bool, AllocError>
     ensures { IfOk result (λ is. is ≡ is_text text.now (option_map seen_value value.entry)) }
@@ -61,22 +61,22 @@ fn read_all<'a, A: Allocator + Clone>(
     alloc: &A,
     value: &'a [u8],
     realm: &[u8],
-) -> Result<Reading<'a, A>, AllocError>
+) -> Result<ReadCredentials<'a, A>, AllocError>
     ensures { IfOk result (λ reading. seen_reading reading ≡ read_credentials value.now realm.now) }
 {
     let Some(text) = behind_scheme(value) else {
-        return Ok(Reading::OtherRealm);
+        return Ok(ReadCredentials::OtherRealm);
     };
     let fields = fields_of(text);
     if !is_text(alloc.clone()?, fields.realm, realm)? {
-        return Ok(Reading::OtherRealm);
+        return Ok(ReadCredentials::OtherRealm);
     }
     if !fields.is_whole {
-        return Ok(Reading::Unreadable);
+        return Ok(ReadCredentials::Unreadable);
     }
     match credentials_of(alloc, &fields)? {
-        None => Ok(Reading::Unreadable),
-        Some(credentials) => Ok(Reading::Read(credentials)),
+        None => Ok(ReadCredentials::Unreadable),
+        Some(credentials) => Ok(ReadCredentials::Read(credentials)),
     }
 }
 
@@ -94,7 +94,7 @@ pub fn read_credentials<'a, A: Allocator + Clone>(
     alloc: A,
     value: &'a [u8],
     realm: &[u8],
-) -> Result<Reading<'a, A>, AllocError>
+) -> Result<ReadCredentials<'a, A>, AllocError>
     ensures found { IfOk result (IsReadingOf value.now realm.now) }
     ensures only { (params : List AuthParam) (whole : Bool) → IsOfRealm value.now realm.now params whole
         → IfOk result (λ reading. seen_reading reading ≡ Some (credentials_in params whole)) }

@@ -2,7 +2,7 @@
 ghost use Rattle.std.specs.Prelude.{◌≡◌, ◌↔◌, IfOk, IsTrue, Some};
 ghost use Rattle.std.specs.Option.{option_map};
 ghost use Rattle.sip_digest.specs.declared.algorithm.Algorithm.TheVariants as algorithm;
-ghost use Rattle.sip_digest.specs.declared.verdict.Verdict.TheVariants as verdict;
+ghost use Rattle.sip_digest.specs.declared.verdict.CredentialsVerdict.TheVariants as verdict;
 ghost use Rattle.sip_digest.specs.Response.{between};
 ghost use Rattle.sip_digest.specs.Right.{AreRight, IsAnswered, between_of, secret_of};
 ghost use Rattle.sip_digest.specs.SeenCredentials.{seen_credentials, seen_quality};
@@ -20,7 +20,7 @@ use std::alloc::{AllocError, Allocator};
 
 /// The request that credentials came with.
 #[derive(Clone, Copy, Debug)]
-pub struct Asked<'a> {
+pub struct JudgedRequest<'a> {
     /// The method as it is written.
     pub method: &'a [u8],
     /// The Request-URI as it is written.
@@ -33,7 +33,7 @@ pub struct Asked<'a> {
 
 /// What credentials are worth.
 #[derive(Clone, Copy, Debug, PartialEq, Eq)]
-pub enum Verdict {
+pub enum CredentialsVerdict {
     /// They are those of the user.
     Right,
     /// Their nonce is not good: the same password with a new nonce may do.
@@ -169,9 +169,9 @@ pub fn verdict_of<A: Allocator + Clone>(
     secret: &[u8; 32],
     algorithms: Algorithms,
     secrets: Option<Secrets>,
-    asked: &Asked<'_>,
+    asked: &JudgedRequest<'_>,
     credentials: &Credentials<'_, A>,
-) -> Result<Verdict, AllocError>
+) -> Result<CredentialsVerdict, AllocError>
     ensures right { IfOk result (λ given. (given ≡ verdict.Right)
         ↔ AreRight secret.now algorithms secrets asked.now (seen_credentials credentials.now)) }
     ensures stale { IfOk result (λ given. (given ≡ verdict.Stale)
@@ -183,14 +183,14 @@ pub fn verdict_of<A: Allocator + Clone>(
         asked.address,
         asked.second,
     ) {
-        return Ok(Verdict::Stale);
+        return Ok(CredentialsVerdict::Stale);
     }
     if !is_answered(algorithms, secrets, asked.method, credentials) {
-        return Ok(Verdict::Wrong);
+        return Ok(CredentialsVerdict::Wrong);
     }
     if is_uri_of(alloc, credentials.uri.as_slice(), asked.uri)? {
-        Ok(Verdict::Right)
+        Ok(CredentialsVerdict::Right)
     } else {
-        Ok(Verdict::Wrong)
+        Ok(CredentialsVerdict::Wrong)
     }
 }

@@ -10,10 +10,10 @@ use Rattle.sip_lex.specs.Line.{IsLine, ended, line_at, line_at_cut, line_in, wit
 use Rattle.sip_text.specs.Grammar.{IsFull}
 use Rattle.sip_lex.proofs.laws.Lines.{line_at-again, line_at-takes}
 use Rattle.sip_framing.specs.declared.length.Heard.{Heard}
-use Rattle.sip_framing.specs.declared.length.Said.{Said}
-use Rattle.sip_framing.specs.declared.length.Said.TheVariants.{Unsaid, Bytes, Wrong}
-use Rattle.sip_framing.specs.declared.head.Head.{Head}
-use Rattle.sip_framing.specs.declared.head.Head.TheVariants as head
+use Rattle.sip_framing.specs.declared.length.SaidLength.{SaidLength}
+use Rattle.sip_framing.specs.declared.length.SaidLength.TheVariants.{Unsaid, Bytes, Wrong}
+use Rattle.sip_framing.specs.declared.head.FramedHead.{FramedHead}
+use Rattle.sip_framing.specs.declared.head.FramedHead.TheVariants as head
 use Rattle.sip_framing.specs.declared.frame.Frame.TheVariants.{More, Whole, TooLong}
 use Rattle.sip_framing.specs.Length.{heard_after, unheard}
 use Rattle.sip_framing.specs.Head.{head_in}
@@ -43,7 +43,7 @@ by_line_cut heard line rest (piece, Some after) e = by_rest heard after line res
 by_line_at : (heard : Heard) (text line rest : List ℕ) → line_at text ≡ Some (line, rest) → head_in [] heard text ≡ by_line heard rest (Some line)
 by_line_at heard text line rest e = next_line [] heard text ∙ by_line_cut heard line rest (cut (is 10) text) e
 
-not_ended : (heard : Heard) (said : Said) (r : ℕ) (c : List ℕ × Option (List ℕ)) → line_at_cut c ≡ None → by_cut [] heard c ≢ head.Ended said r
+not_ended : (heard : Heard) (said : SaidLength) (r : ℕ) (c : List ℕ × Option (List ℕ)) → line_at_cut c ≡ None → by_cut [] heard c ≢ head.Ended said r
 not_ended heard said r (piece, None) e same = absurd cc
 not_ended heard said r (piece, Some after) e same = go (line_in piece) e same
   where
@@ -82,7 +82,7 @@ begins most [] more full = absurd (full.1 refl)
 begins most (b ∷ bs) more full = plain most b ((bs ++ 13 ∷ 10 ∷ []) ++ more) (not_cr b full.0.no_cr.0)
 
 -- a head of these bytes, and what stands behind it
-taken_as : (most h n x : ℕ) (said : Said) → said ≡ Bytes n → h + n ≤ most → (all : ℕ) → h + n ≤ all → head_frame most (h + x) all (head.Ended said x) ≡ Whole (h + n)
+taken_as : (most h n x : ℕ) (said : SaidLength) → said ≡ Bytes n → h + n ≤ most → (all : ℕ) → h + n ≤ all → head_frame most (h + x) all (head.Ended said x) ≡ Whole (h + n)
 taken_as most h n x said is within all there =
     let front : (h + x) - x ≡ h = omega arith in
     ap (λ k. body_frame most k (all - k) said) front ∙ ap (λ s. body_frame most h (all - h) s) is ∙ body
@@ -122,7 +122,7 @@ frame_only most text message rest m within e =
 
 -- ---- what is taken is one
 
-record FoundHead (heard : Heard) (text : List ℕ) (said : Said) (r : ℕ) : Type 0 where
+record FoundHead (heard : Heard) (text : List ℕ) (said : SaidLength) (r : ℕ) : Type 0 where
   lines : List (List ℕ)
   rest : List ℕ
   full : AllByRecursion IsFull lines
@@ -130,7 +130,7 @@ record FoundHead (heard : Heard) (text : List ℕ) (said : Said) (r : ℕ) : Typ
   size : length rest ≡ r
   heard_is : (heard_all heard lines).said ≡ said
 
-ended_is : (a b : Said) (n m : ℕ) → head.Ended a n ≡ head.Ended b m → (a ≡ b) × (n ≡ m)
+ended_is : (a b : SaidLength) (n m : ℕ) → head.Ended a n ≡ head.Ended b m → (a ≡ b) × (n ≡ m)
 ended_is a b n m e = (cc, cc)
 
 behind_line : (line rest : List ℕ) (text : List ℕ) → text ≡ ended line ++ rest → 2 + length rest ≤ length text
@@ -139,7 +139,7 @@ behind_line line rest text e =
     let m = length-append line (13 ∷ 10 ∷ []) in
     omega (arith, n, m)
 
-head_step : (heard : Heard) (text line rest : List ℕ) (said : Said) (r : ℕ) → IsLine line → text ≡ ended line ++ rest → by_line heard rest (Some line) ≡ head.Ended said r
+head_step : (heard : Heard) (text line rest : List ℕ) (said : SaidLength) (r : ℕ) → IsLine line → text ≡ ended line ++ rest → by_line heard rest (Some line) ≡ head.Ended said r
     → (head_in [] (heard_after heard line) rest ≡ head.Ended said r → FoundHead (heard_after heard line) rest said r) → FoundHead heard text said r
 head_step heard text [] rest said r is_line whole e later = record { lines = []; rest = rest; full = tt; whole = whole; size = (ended_is heard.said said (length rest) r e).1; heard_is = (ended_is heard.said said (length rest) r e).0 }
 head_step heard text (b ∷ bs) rest said r is_line whole e later =
@@ -153,7 +153,7 @@ head_step heard text (b ∷ bs) rest said r is_line whole e later =
       heard_is = h.heard_is;
     }
 
-head_at : (heard : Heard) (text : List ℕ) (said : Said) (r : ℕ) → head_in [] heard text ≡ head.Ended said r
+head_at : (heard : Heard) (text : List ℕ) (said : SaidLength) (r : ℕ) → head_in [] heard text ≡ head.Ended said r
     → ((line rest : List ℕ) → 2 + length rest ≤ length text → head_in [] (heard_after heard line) rest ≡ head.Ended said r → FoundHead (heard_after heard line) rest said r)
     → (o : Option (List ℕ × List ℕ)) → line_at text ≡ o → FoundHead heard text said r
 head_at heard text said r e later None none = absurd (not_ended heard said r (cut (is 10) text) none (sym (next_line [] heard text) ∙ e))
@@ -161,7 +161,7 @@ head_at heard text said r e later (Some (line, rest)) some =
     let takes = line_at-takes text line rest some in
     head_step heard text line rest said r takes.is_line takes.whole (sym (by_line_at heard text line rest some) ∙ e) (later line rest (behind_line line rest text takes.whole))
 
-head_found : (fuel : ℕ) (heard : Heard) (text : List ℕ) (said : Said) (r : ℕ) → length text ≤ fuel → head_in [] heard text ≡ head.Ended said r → FoundHead heard text said r
+head_found : (fuel : ℕ) (heard : Heard) (text : List ℕ) (said : SaidLength) (r : ℕ) → length text ≤ fuel → head_in [] heard text ≡ head.Ended said r → FoundHead heard text said r
 head_found zero heard text said r within e = head_at heard text said r e (λ line rest shorter. absurd (omega (arith, within, shorter))) (line_at text) refl
 head_found (suc fuel) heard text said r within e =
     head_at heard text said r e (λ line rest shorter h. head_found fuel (heard_after heard line) rest said r (omega (arith, within, shorter)) h) (line_at text) refl
@@ -176,7 +176,7 @@ front_is most text =
     front_cut : (m : ℕ) (t : List ℕ) → m < length t → front_of m t ≡ take m t
     front_cut m t h = grind arith
 
-body_found : (most front rest n : ℕ) (said : Said) → body_frame most front rest said ≡ Whole n → (k : ℕ) × (said ≡ Bytes k) × (n ≡ front + k) × (k ≤ rest)
+body_found : (most front rest n : ℕ) (said : SaidLength) → body_frame most front rest said ≡ Whole n → (k : ℕ) × (said ≡ Bytes k) × (n ≡ front + k) × (k ≤ rest)
 body_found most front rest n Unsaid e = absurd cc
 body_found most front rest n Wrong e = absurd cc
 body_found most front rest n (Bytes k) e = (k, refl, grind arith, grind arith)
@@ -190,7 +190,7 @@ framed_lines (l ∷ ls) body text whole full said some = record { line = l; line
 abbrev pub Plain : List ℕ → Type 0
 Plain text = (rest : List ℕ) → text ≢ 13 ∷ (10 ∷ rest)
 
-head_framed : (most n : ℕ) (text : List ℕ) (said : Said) (r : ℕ) → Plain text → FoundHead unheard (front_of most text) said r → body_frame most (length (front_of most text) - r) (length text - (length (front_of most text) - r)) said ≡ Whole n → IsFramed (take n text)
+head_framed : (most n : ℕ) (text : List ℕ) (said : SaidLength) (r : ℕ) → Plain text → FoundHead unheard (front_of most text) said r → body_frame most (length (front_of most text) - r) (length text - (length (front_of most text) - r)) said ≡ Whole n → IsFramed (take n text)
 head_framed most n text said r no_crlf h e =
     let a = flat_map ended h.lines ++ ended [] in
     let behind = front_is most text in
@@ -214,7 +214,7 @@ message_found most n text no_crlf e = go (head_in [] unheard (front_of most text
     open_not : (m l : ℕ) → cond (nat_lt m l) TooLong More ≢ Whole n
     open_not m l same = grind arith
 
-    go : (h : Head) → head_in [] unheard (front_of most text) ≡ h → head_frame most (length (front_of most text)) (length text) h ≡ Whole n → IsFramed (take n text)
+    go : (h : FramedHead) → head_in [] unheard (front_of most text) ≡ h → head_frame most (length (front_of most text)) (length text) h ≡ Whole n → IsFramed (take n text)
     go head.Open is e = absurd (open_not most (length text) e)
     go head.Broken is e = absurd cc
     go (head.Ended said r) is e = head_framed most n text said r no_crlf (head_found (length (front_of most text)) unheard (front_of most text) said r (omega arith) is) e

@@ -21,8 +21,8 @@ use Rattle.sip_text.specs.Name.{full_name, name_of_letter, same_name, values_of}
 use Rattle.sip_text.specs.Text.{HeaderText, StartText, Request, Response}
 use Rattle.sip_text.proofs.laws.Good.{trim_trimmed}
 use Rattle.sip_framing.specs.declared.length.Heard.{Heard}
-use Rattle.sip_framing.specs.declared.length.Said.{Said}
-use Rattle.sip_framing.specs.declared.length.Said.TheVariants.{Unsaid, Bytes, Wrong}
+use Rattle.sip_framing.specs.declared.length.SaidLength.{SaidLength}
+use Rattle.sip_framing.specs.declared.length.SaidLength.TheVariants.{Unsaid, Bytes, Wrong}
 use Rattle.sip_framing.specs.Length.{agreed, heard_after, is_length_name, length_in, length_in_cut, with_length}
 use Rattle.sip_framing.specs.Message.{heard_all}
 use Rattle.sip_framing.specs.Text.{AreUnfolded, TextsAreFramed}
@@ -114,15 +114,15 @@ value_of line h t = t.value ∙ trim_again t.raw
 
 -- ---- all of them
 
-abbrev with : Bool → Said → Heard
+abbrev with : Bool → SaidLength → Heard
 with fresh said = record { is_begun = true; is_fresh = fresh; said = said }
 
 -- what values say, one after another
-abbrev said_with : Said → List (List ℕ) → Said
+abbrev said_with : SaidLength → List (List ℕ) → SaidLength
 said_with said [] = said
 said_with said (v ∷ vs) = said_with (agreed said (length_number v)) vs
 
-more_heard : (said : Said) (more others : List (List ℕ)) → AllByRecursion (λ l. begins_with_space l ≡ true) more
+more_heard : (said : SaidLength) (more others : List (List ℕ)) → AllByRecursion (λ l. begins_with_space l ≡ true) more
     → heard_all (with false said) (more ++ others) ≡ heard_all (with false said) others
 more_heard said [] others c = refl
 more_heard said (l ∷ more) others c =
@@ -134,15 +134,15 @@ unfolded_behind line [] (o ∷ others) u = u.1
 unfolded_behind line (m ∷ more) others u = unfolded_behind m more others u.1
 
 -- a line that begins without space
-plain_after : (fresh : Bool) (said : Said) (line : List ℕ) → begins_with_space line ≡ false → heard_after (with fresh said) line ≡ with_length (with fresh said) (length_in line)
+plain_after : (fresh : Bool) (said : SaidLength) (line : List ℕ) → begins_with_space line ≡ false → heard_after (with fresh said) line ≡ with_length (with fresh said) (length_in line)
 plain_after fresh said line e = ap (λ v. cond v (record { is_begun = true; is_fresh = false; said = cond fresh Wrong said }) (with_length (with fresh said) (length_in line))) e
 
 -- what is heard of the lines behind a header
 abbrev Behind : List (List ℕ) → List HeaderText → Type 0
-Behind others hs = (fresh : Bool) (said : Said) → AreUnfolded others → (heard_all (with fresh said) others).said ≡ said_with said (values_of length_name hs)
+Behind others hs = (fresh : Bool) (said : SaidLength) → AreUnfolded others → (heard_all (with fresh said) others).said ≡ said_with said (values_of length_name hs)
 
 -- a Content-Length, which no line continues
-length_heard : (fresh : Bool) (said : Said) (line : List ℕ) (more others : List (List ℕ)) (h : HeaderText) (hs : List HeaderText) (t : IsHeader line more h)
+length_heard : (fresh : Bool) (said : SaidLength) (line : List ℕ) (more others : List (List ℕ)) (h : HeaderText) (hs : List HeaderText) (t : IsHeader line more h)
     → same_name length_name h.name ≡ true → AreUnfolded (line ∷ (more ++ others)) → Behind others hs
     → (heard_all (heard_after (with fresh said) line) (more ++ others)).said ≡ said_with said (values_of length_name (h ∷ hs))
 unfolding values_of
@@ -157,7 +157,7 @@ length_heard fresh said line (m ∷ more) others h hs t is u behind =
     elim u.0 [ inl none ↦ absurd (let wrong = sym n ∙ none in cc) | inr plain ↦ absurd (let wrong = sym t.continues.0 ∙ plain in cc) ]
 
 -- another header, with the lines that continue it
-other_heard : (fresh : Bool) (said : Said) (line : List ℕ) (more others : List (List ℕ)) (h : HeaderText) (hs : List HeaderText) (t : IsHeader line more h)
+other_heard : (fresh : Bool) (said : SaidLength) (line : List ℕ) (more others : List (List ℕ)) (h : HeaderText) (hs : List HeaderText) (t : IsHeader line more h)
     → same_name length_name h.name ≡ false → AreUnfolded (line ∷ (more ++ others)) → Behind others hs
     → (heard_all (heard_after (with fresh said) line) (more ++ others)).said ≡ said_with said (values_of length_name (h ∷ hs))
 unfolding values_of
@@ -168,13 +168,13 @@ other_heard fresh said line more others h hs t is u behind =
     ∙ behind false said (unfolded_behind line more others u)
     ∙ ap (λ v. said_with said (cond v (h.value ∷ values_of length_name hs) (values_of length_name hs))) (sym is)
 
-header_heard : (fresh : Bool) (said : Said) (line : List ℕ) (more others : List (List ℕ)) (h : HeaderText) (hs : List HeaderText) (t : IsHeader line more h)
+header_heard : (fresh : Bool) (said : SaidLength) (line : List ℕ) (more others : List (List ℕ)) (h : HeaderText) (hs : List HeaderText) (t : IsHeader line more h)
     → AreUnfolded (line ∷ (more ++ others)) → Behind others hs → (v : Bool) → same_name length_name h.name ≡ v
     → (heard_all (heard_after (with fresh said) line) (more ++ others)).said ≡ said_with said (values_of length_name (h ∷ hs))
 header_heard fresh said line more others h hs t u behind true is = length_heard fresh said line more others h hs t is u behind
 header_heard fresh said line more others h hs t u behind false is = other_heard fresh said line more others h hs t is u behind
 
-headers_heard : (fresh : Bool) (said : Said) (lines : List (List ℕ)) (hs : List HeaderText) → AreHeaders lines hs → AreUnfolded lines
+headers_heard : (fresh : Bool) (said : SaidLength) (lines : List (List ℕ)) (hs : List HeaderText) → AreHeaders lines hs → AreUnfolded lines
     → (heard_all (with fresh said) lines).said ≡ said_with said (values_of length_name hs)
 unfolding values_of
 headers_heard fresh said lines [] a u = ap (λ (x : List (List ℕ)). (heard_all (with fresh said) x).said) a

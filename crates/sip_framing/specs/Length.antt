@@ -5,8 +5,8 @@ use Rattle.sip_lex.specs.Bytes.{trim, trim_end}
 use Rattle.sip_lex.specs.Cut.{cut, is}
 use Rattle.sip_lex.specs.Values.{begins_with_space}
 use Rattle.sip_text.specs.Fields.{length_number}
-use Rattle.sip_framing.specs.declared.length.Said.{Said}
-use Rattle.sip_framing.specs.declared.length.Said.TheVariants.{Unsaid, Bytes, Wrong}
+use Rattle.sip_framing.specs.declared.length.SaidLength.{SaidLength}
+use Rattle.sip_framing.specs.declared.length.SaidLength.TheVariants.{Unsaid, Bytes, Wrong}
 use Rattle.sip_framing.specs.declared.length.Heard.{Heard}
 
 -- the long name or the compact one, in any case
@@ -22,7 +22,7 @@ abbrev pub length_in : List ℕ → Option (Option ℕ)
 length_in line = length_in_cut (cut (is 58) line)
 
 -- all that are there have to agree
-abbrev pub agreed : Said → Option ℕ → Said
+abbrev pub agreed : SaidLength → Option ℕ → SaidLength
 agreed Unsaid (Some n) = Bytes n
 agreed (Bytes m) (Some n) = if m == n then Bytes m else Wrong
 agreed said length = Wrong

@@ -4,7 +4,7 @@ use Rattle.std.specs.List.{AllByRecursion, flat_map}
 use Rattle.sip_lex.specs.Line.{ended}
 use Rattle.sip_text.specs.Grammar.{IsFull}
 use Rattle.sip_framing.specs.declared.length.Heard.{Heard}
-use Rattle.sip_framing.specs.declared.length.Said.TheVariants.{Bytes}
+use Rattle.sip_framing.specs.declared.length.SaidLength.TheVariants.{Bytes}
 use Rattle.sip_framing.specs.Length.{heard_after, unheard}
 
 -- what was heard with more lines

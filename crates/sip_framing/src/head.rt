@@ -5,18 +5,18 @@ ghost use Rattle.sip_lex.specs.Line.{line_in};
 ghost use Rattle.sip_framing.specs.Head.{head_in, ends_within};
 ghost use Rattle.sip_framing.specs.Length.{unheard};
 
-use crate::length::{Heard, Said};
+use crate::length::{Heard, SaidLength};
 use sip_lex::cut_at;
 
 /// What stands at the front of a text.
 #[derive(Clone, Copy)]
-pub enum Head {
+pub enum FramedHead {
     /// The empty line is not there yet.
     Open,
     /// A line that does not end in CRLF, or that has another CR.
     Broken,
     /// The lines up to the empty one, what they say of the length of the body, and how many bytes stand behind them.
-    Ended(Said, usize),
+    Ended(SaidLength, usize),
 }
 
 /// The line in what stands before an LF.
@@ -30,7 +30,7 @@ fn line_in(piece: &[u8]) -> Option<&[u8]>
 }
 
 /// The head of the message at the front of a text.
-pub(crate) fn head_of(text: &[u8]) -> Head
+pub(crate) fn head_of(text: &[u8]) -> FramedHead
     ensures value { result ≡ head_in [] unheard text.now }
     ensures within { ends_within (length text.now) result }
 {
@@ -39,13 +39,13 @@ pub(crate) fn head_of(text: &[u8]) -> Head
     loop {
         let (piece, after) = cut_at(rest, b'\n');
         let Some(after) = after else {
-            return Head::Open;
+            return FramedHead::Open;
         };
         let Some(line) = line_in(piece) else {
-            return Head::Broken;
+            return FramedHead::Broken;
         };
         if line.is_empty() {
-            return Head::Ended(heard.said, after.len());
+            return FramedHead::Ended(heard.said, after.len());
         }
         heard = heard.after(line);
         rest = after;

@@ -8,7 +8,7 @@ use sip_lex::{cut_at, is_space, read_number, trim, trim_end};
 
 /// What the Content-Length lines so far say.
 #[derive(Clone, Copy)]
-pub enum Said {
+pub enum SaidLength {
     /// There is none.
     Unsaid,
     /// So many bytes.
@@ -24,7 +24,7 @@ pub struct Heard {
     pub is_begun: bool,
     /// The last one was a Content-Length.
     pub is_fresh: bool,
-    pub said: Said,
+    pub said: SaidLength,
 }
 
 fn begins_with_space(text: &[u8]) -> bool
@@ -69,15 +69,15 @@ fn length_in(line: &[u8]) -> Option<Option<usize>>
     }
 }
 
-impl Said {
+impl SaidLength {
     /// What is said with one more Content-Length.
-    fn agreed(self, length: Option<usize>) -> Said
+    fn agreed(self, length: Option<usize>) -> SaidLength
         ensures { result ≡ agreed self length }
     {
         match (self, length) {
-            (Said::Unsaid, Some(n)) => Said::Bytes(n),
-            (Said::Bytes(m), Some(n)) if m == n => Said::Bytes(m),
-            _ => Said::Wrong,
+            (SaidLength::Unsaid, Some(n)) => SaidLength::Bytes(n),
+            (SaidLength::Bytes(m), Some(n)) if m == n => SaidLength::Bytes(m),
+            _ => SaidLength::Wrong,
         }
     }
 }
@@ -90,7 +90,7 @@ impl Heard {
         Heard {
             is_begun: false,
             is_fresh: false,
-            said: Said::Unsaid,
+            said: SaidLength::Unsaid,
         }
     }
 
@@ -110,7 +110,7 @@ impl Heard {
                 is_begun: true,
                 is_fresh: false,
                 said: if self.is_fresh {
-                    Said::Wrong
+                    SaidLength::Wrong
                 } else {
                     self.said
                 },

@@ -13,8 +13,8 @@ pub use Rattle.sip_lex.specs.Line.{seen_line}
 pub use Rattle.sip_lex.specs.Number.{number, with_digit}
 pub use Rattle.sip_lex.specs.Quoted.{quoted_len}
 pub use Rattle.sip_lex.specs.Sheltered.{LacksOutside, cut_outside, is_plain, place_after}
-pub use Rattle.sip_lex.specs.declared.sheltered.Place.{Place}
-pub use Rattle.sip_lex.specs.declared.sheltered.Place.TheVariants.{Angled, Plain, Quoted}
+pub use Rattle.sip_lex.specs.declared.sheltered.ShelterState.{ShelterState}
+pub use Rattle.sip_lex.specs.declared.sheltered.ShelterState.TheVariants.{Angled, Plain, Quoted}
 pub use Rattle.sip_lex.specs.declared.sheltered.Shelter.{Shelter}
 pub use Rattle.sip_lex.specs.inner.Number.{below}
 pub use Rattle.sip_lex.specs.inner.Sheltered.{outside_len}

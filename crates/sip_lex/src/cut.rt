@@ -8,7 +8,7 @@ ghost use Rattle.sip_lex.specs.Cut.{behind, cut, is, Lacks, seen_cut};
 use memchr::{memchr, memchr2};
 
 /// The place of the first `mark`.
-fn place_of(text: &[u8], mark: u8) -> Option<usize>
+fn byte_place(text: &[u8], mark: u8) -> Option<usize>
     ensures value { result ≡ position (is mark) text.now }
     ensures within { IfSome result (λ i. i < length text.now) }
 {
@@ -35,7 +35,7 @@ fn cut_by_mark(text: &[u8], mark: u8) -> (&[u8], Option<&[u8]>)
     ensures value { seen_cut result ≡ cut (is mark) text.now }
     ensures shorter { IfSome result.1 (λ after. length after.now < length text.now) }
 {
-    match place_of(text, mark) {
+    match byte_place(text, mark) {
         None => (text, None),
         Some(i) => (&text[..i], Some(&text[i + 1..])),
     }

@@ -4,7 +4,7 @@ ghost use Rattle.memchr.specs.Find.{is_byte3};
 ghost use Rattle.std.specs.Prelude.{◌≡◌, ◌≤◌, ◌<◌, ◌++◌, length, IfSome, OnSome};
 ghost use Rattle.std.specs.List.{position_or_len};
 ghost use Rattle.std.specs.Option.{option_copied};
-ghost use Rattle.sip_lex.specs.declared.sheltered.Place.TheVariants.{Plain};
+ghost use Rattle.sip_lex.specs.declared.sheltered.ShelterState.TheVariants.{Plain};
 ghost use Rattle.sip_lex.specs.Cut.{behind, seen_cut};
 ghost use Rattle.sip_lex.specs.Sheltered.{LacksOutside, cut_outside, end_place, is_closed, is_plain, place_after};
 ghost use Rattle.sip_lex.specs.inner.Sheltered.{outside_len};
@@ -21,34 +21,34 @@ pub enum Shelter {
 
 /// Where in a text a byte stands.
 #[derive(Clone, Copy, Debug, PartialEq, Eq)]
-pub enum Place {
+pub enum ShelterState {
     Plain,
     Quoted,
     Escaped,
     Angled,
 }
 
-impl Place {
+impl ShelterState {
     fn is_plain(self) -> bool
         ensures { result ≡ is_plain self }
     {
         match self {
-            Place::Plain => true,
-            Place::Quoted | Place::Escaped | Place::Angled => false,
+            ShelterState::Plain => true,
+            ShelterState::Quoted | ShelterState::Escaped | ShelterState::Angled => false,
         }
     }
 
     /// Where the byte behind this one stands.
-    fn after(self, shelter: Shelter, byte: u8) -> Place
+    fn after(self, shelter: Shelter, byte: u8) -> ShelterState
         ensures { result ≡ place_after shelter self byte }
     {
         match self {
-            Place::Plain if byte == b'"' => Place::Quoted,
-            Place::Plain if byte == b'<' && shelter == Shelter::QuotesAndAngles => Place::Angled,
-            Place::Quoted if byte == b'\\' => Place::Escaped,
-            Place::Quoted if byte == b'"' => Place::Plain,
-            Place::Escaped => Place::Quoted,
-            Place::Angled if byte == b'>' => Place::Plain,
+            ShelterState::Plain if byte == b'"' => ShelterState::Quoted,
+            ShelterState::Plain if byte == b'<' && shelter == Shelter::QuotesAndAngles => ShelterState::Angled,
+            ShelterState::Quoted if byte == b'\\' => ShelterState::Escaped,
+            ShelterState::Quoted if byte == b'"' => ShelterState::Plain,
+            ShelterState::Escaped => ShelterState::Quoted,
+            ShelterState::Angled if byte == b'>' => ShelterState::Plain,
             _ => self,
         }
     }
@@ -78,7 +78,7 @@ fn walked_len(text: &[u8], mark: u8, shelter: Shelter) -> usize
     ensures value { result ≡ outside_len shelter mark Plain text.now }
     ensures within { result ≤ length text.now }
 {
-    let mut place = Place::Plain;
+    let mut place = ShelterState::Plain;
     for (i, byte) in text.iter().enumerate() {
         if place.is_plain() && *byte == mark {
             return i;
@@ -125,7 +125,7 @@ pub fn cut_outside(text: &[u8], mark: u8, shelter: Shelter) -> (&[u8], Option<&[
 pub fn is_closed(text: &[u8], shelter: Shelter) -> bool
     ensures { result ≡ is_closed shelter text.now }
 {
-    let mut place = Place::Plain;
+    let mut place = ShelterState::Plain;
     for byte in text {
         place = place.after(shelter, *byte);
     }

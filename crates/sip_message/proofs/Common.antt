@@ -23,8 +23,8 @@ pub use Rattle.sip_lex.specs.Cut.{behind, cut, is}
 pub use Rattle.sip_lex.specs.Number.{number_within}
 pub use Rattle.sip_lex.specs.Outside.{pieces_from, pieces_outside_behind}
 pub use Rattle.sip_lex.specs.Sheltered.{cut_outside, is_plain, place_after}
-pub use Rattle.sip_lex.specs.declared.sheltered.Place.{Place}
-pub use Rattle.sip_lex.specs.declared.sheltered.Place.TheVariants.{Plain}
+pub use Rattle.sip_lex.specs.declared.sheltered.ShelterState.{ShelterState}
+pub use Rattle.sip_lex.specs.declared.sheltered.ShelterState.TheVariants.{Plain}
 pub use Rattle.sip_lex.specs.declared.sheltered.Shelter.TheVariants.{Quotes}
 pub use Rattle.sip_text.proofs.laws.Good.{and_both, found}
 pub use Rattle.sip_text.specs.Fields.{CSeqText, cseq_in, cseq_of, cseq_with, fits_start, length_name, message_cseq, said_by, value_of}
@@ -32,7 +32,7 @@ pub use Rattle.sip_text.specs.Message.{IsMessage, fits_body, is_header, is_line,
 pub use Rattle.sip_text.specs.Name.{first_of, first_value, same_name}
 pub use Rattle.sip_text.specs.Reading.{begins_with_space, is_uri}
 pub use Rattle.sip_text.specs.Text.{HeaderText, MessageText, Request, Response, StartText}
-pub use Rattle.sip_text.specs.declared.needed.Needed.TheVariants.{CSeq, CallId, From, To, Via}
+pub use Rattle.sip_text.specs.declared.needed.MandatoryHeader.TheVariants.{CSeq, CallId, From, To, Via}
 pub use Rattle.sip_uri.specs.Host.{IsHost, IsPort}
 pub use Rattle.sip_uri.specs.Uri.{Uri, request_uri}
 pub use Rattle.sip_uri.specs.declared.hop.Hop.{Hop}

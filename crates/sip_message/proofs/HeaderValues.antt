@@ -1,5 +1,5 @@
 -- Which texts are header values.
-use Rattle.sip_message.proofs.Common.{◌≡◌, ℕ, ◌<◌, Bool, true, false, not, List, [], ◌∷◌, ◌++◌, length, map, take, reverse, refl, ◌∙◌, arith, codes, list_all, flat_map, filter, and_parts, and_from, cond_both, reverse-append, list_all-append, Quotes, Place}
+use Rattle.sip_message.proofs.Common.{◌≡◌, ℕ, ◌<◌, Bool, true, false, not, List, [], ◌∷◌, ◌++◌, length, map, take, reverse, refl, ◌∙◌, arith, codes, list_all, flat_map, filter, and_parts, and_from, cond_both, reverse-append, list_all-append, Quotes, ShelterState}
 use Rattle.sip_message.proofs.Common.{Plain, is_space, is_token, trim, pieces_from, place_after, is_header, is_line, is_line_byte, is_trimmed, is_value, first_of, begins_with_space, HeaderText, MessageText, line, has_name, or_empty, no_space, first_or_empty}
 use Rattle.sip_message.proofs.Common.{top_value, values_in, via_values, common_steps}
 use Rattle.sip_uri.proofs.laws.Values.{onto_line}
@@ -13,7 +13,7 @@ use Rattle.sip_via.specs.TopVia.{via_lines}
 pub trimmed_value : (bs : List ℕ) → is_line bs ≡ true → is_value (trim bs) ≡ true
 trimmed_value bs h = and_from (is_line (trim bs)) (is_trimmed (trim bs)) (all_trim is_line_byte bs h) (trim_trimmed bs)
 
-pieces_line : (mark : ℕ) (place : Place) (bs : List ℕ) → is_line bs ≡ true → list_all is_line (pieces_from Quotes mark place bs) ≡ true
+pieces_line : (mark : ℕ) (place : ShelterState) (bs : List ℕ) → is_line bs ≡ true → list_all is_line (pieces_from Quotes mark place bs) ≡ true
 pieces_line mark place [] h = refl
 pieces_line mark place (b ∷ bs) h =
     let each = and_parts (is_line_byte b) (is_line bs) h in

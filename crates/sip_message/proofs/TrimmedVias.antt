@@ -1,5 +1,5 @@
 -- The values of a Via line: space round the whole line adds none and changes none.
-use Rattle.sip_message.proofs.Common.{◌≡◌, ℕ, Bool, true, false, not, eqb, List, [], ◌∷◌, ◌++◌, map, reverse, refl, sym, ap, ◌∙◌, inr, ◌&&◌, list_all, onto_first, and_parts, cases_Bool, cond-false, cond-true, append-nil, reverse-append, list_all-append, Place}
+use Rattle.sip_message.proofs.Common.{◌≡◌, ℕ, Bool, true, false, not, eqb, List, [], ◌∷◌, ◌++◌, map, reverse, refl, sym, ap, ◌∙◌, inr, ◌&&◌, list_all, onto_first, and_parts, cases_Bool, cond-false, cond-true, append-nil, reverse-append, list_all-append, ShelterState}
 use Rattle.sip_message.proofs.Common.{Plain, Quotes, is_space, trim, trim_end, trim_start, pieces_from, pieces_outside_behind, cut_outside, is_plain, place_after, trim_end-reverse, and_both, values_in, is-not, common_steps, arith}
 use Rattle.std.specs.Prelude.{◌⊎◌}
 use Rattle.sip_lex.proofs.laws.OutsideSplits.{pieces_from-cut}
@@ -43,7 +43,7 @@ longer gap (p ∷ q ∷ ps) = p ∷ longer gap (q ∷ ps)
 onto-longer : (b : ℕ) (gap p : List ℕ) (ps : List (List ℕ)) → onto_first b (longer gap (p ∷ ps)) ≡ longer gap (onto_first b (p ∷ ps))
 onto-longer b gap p ps = grind arith
 
-space-piece : (place : Place) (gap : List ℕ) → list_all is_space gap ≡ true → pieces_from Quotes 44 place gap ≡ gap ∷ []
+space-piece : (place : ShelterState) (gap : List ℕ) → list_all is_space gap ≡ true → pieces_from Quotes 44 place gap ≡ gap ∷ []
 space-piece place [] h = refl
 space-piece place (b ∷ gap) h =
     let each = and_parts (is_space b) (list_all is_space gap) h in
@@ -56,13 +56,13 @@ space-piece place (b ∷ gap) h =
     never true = refl
     never false = refl
 
-abbrev front : Place → List ℕ → List ℕ
+abbrev front : ShelterState → List ℕ → List ℕ
 front place bs = (cut_outside Quotes 44 place bs).0
 
-abbrev rest : Place → List ℕ → List (List ℕ)
+abbrev rest : ShelterState → List ℕ → List (List ℕ)
 rest place bs = pieces_outside_behind Quotes 44 (cut_outside Quotes 44 place bs).1
 
-pieces-longer : (place : Place) (bs gap : List ℕ) → list_all is_space gap ≡ true → pieces_from Quotes 44 place (bs ++ gap) ≡ longer gap (pieces_from Quotes 44 place bs)
+pieces-longer : (place : ShelterState) (bs gap : List ℕ) → list_all is_space gap ≡ true → pieces_from Quotes 44 place (bs ++ gap) ≡ longer gap (pieces_from Quotes 44 place bs)
 pieces-longer place [] gap h = space-piece place gap h
 pieces-longer place (b ∷ bs) gap h =
     let after = place_after Quotes place b in

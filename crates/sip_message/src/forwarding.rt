@@ -16,12 +16,12 @@ use sip_via::{BranchName, BuildFault, Own};
 use std::alloc::Allocator;
 
 /// Shows that the numbers of the proxy's address are bounded.
-fn is_own(own: Own)
+fn fact_own(own: Own)
     ensures { IsOwn own }
 {}
 
 /// Shows that the numbers of a branch are bounded.
-fn is_branch(name: BranchName)
+fn fact_branch(name: BranchName)
     ensures { IsBranch name }
 {}
 
@@ -46,8 +46,8 @@ pub fn forward<A: Allocator + Clone>(
 {
     message.is_message();
     target.is_uri();
-    is_own(own);
-    is_branch(*branch);
+    fact_own(own);
+    fact_branch(*branch);
     let mut text = Vec::new(alloc.clone()?);
     write_forwarded(message, target, own, branch, None, &mut text)?;
     Ok(read_written(alloc, &text)?)

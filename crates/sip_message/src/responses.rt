@@ -11,7 +11,7 @@ ghost use Rattle.sip_build.specs.declared.responses.OwnStatus.{OwnStatus};
 ghost use Rattle.sip_build.specs.Generated.{generated_of};
 
 use crate::written::read_written;
-use sip_build::{OwnStatus, write_generated};
+use sip_build::{OwnStatus, write_own_response};
 use sip_text::Message;
 use sip_via::BuildFault;
 use std::alloc::Allocator;
@@ -33,7 +33,7 @@ pub fn generated<A: Allocator + Clone>(
 {
     message.is_message();
     let mut text = Vec::new(alloc.clone()?);
-    write_generated(message, status, &[], &mut text)?;
+    write_own_response(message, status, &[], &mut text)?;
     Ok(read_written(alloc, &text)?)
 }
 

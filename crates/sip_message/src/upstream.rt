@@ -7,7 +7,7 @@ ghost use Rattle.sip_build.specs.Upward.{AreKept, is_challenge, refusal, upward}
 
 use crate::written::read_written;
 use fork_rank::Challenge;
-use sip_build::write_upward;
+use sip_build::write_forwarded_response;
 use sip_text::Message;
 use sip_via::{BuildFault, has_second_via};
 use std::alloc::Allocator;
@@ -36,6 +36,6 @@ pub fn upward<A: Allocator + Clone>(
     }
     message.is_message();
     let mut text = Vec::new(alloc.clone()?);
-    write_upward(message, kept, challenges, &mut text)?;
+    write_forwarded_response(message, kept, challenges, &mut text)?;
     Ok(read_written(alloc, &text)?)
 }

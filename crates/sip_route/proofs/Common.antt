@@ -14,8 +14,8 @@ pub use Rattle.md5.specs.Md5.{Holds}
 pub use Rattle.sip_lex.specs.Bytes.{is_space, trim, trim_end, trim_start}
 pub use Rattle.sip_lex.specs.Outside.{pieces_from}
 pub use Rattle.sip_lex.specs.Sheltered.{cut_outside, is_plain, place_after}
-pub use Rattle.sip_lex.specs.declared.sheltered.Place.{Place}
-pub use Rattle.sip_lex.specs.declared.sheltered.Place.TheVariants.{Plain}
+pub use Rattle.sip_lex.specs.declared.sheltered.ShelterState.{ShelterState}
+pub use Rattle.sip_lex.specs.declared.sheltered.ShelterState.TheVariants.{Plain}
 pub use Rattle.sip_lex.specs.declared.sheltered.Shelter.TheVariants.{QuotesAndAngles}
 pub use Rattle.sip_text.specs.Message.{IsMessage}
 pub use Rattle.sip_text.specs.Name.{first_of, first_value, same_name}

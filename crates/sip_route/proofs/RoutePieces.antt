@@ -1,5 +1,5 @@
 -- The pieces of a text between its marks, one by one.
-use Rattle.sip_route.proofs.Common.{◌≡◌, ℕ, true, false, cond, eqb, List, [], ◌∷◌, Option, Some, refl, sym, ap, ◌∙◌, ◌&&◌, Bor, onto_first, option_copied, QuotesAndAngles, Place, Plain, pieces_from, cut_outside, is_plain, place_after, values_in}
+use Rattle.sip_route.proofs.Common.{◌≡◌, ℕ, true, false, cond, eqb, List, [], ◌∷◌, Option, Some, refl, sym, ap, ◌∙◌, ◌&&◌, Bor, onto_first, option_copied, QuotesAndAngles, ShelterState, Plain, pieces_from, cut_outside, is_plain, place_after, values_in}
 use Rattle.sip_route.proofs.Common.{values_behind}
 use Rattle.sip_lex.specs.declared.sheltered.Shelter.{Shelter}
 use Rattle.sip_lex.specs.Cut.{seen_cut}
@@ -13,7 +13,7 @@ abbrev of_cut : Shelter → ℕ → Cut → List (List ℕ)
 of_cut shelter mark c = c.0 ∷ pieces_outside_behind shelter mark c.1
 
 -- the first piece, and the others
-pub pieces_from-cut : (shelter : Shelter) (mark : ℕ) (place : Place) (bs : List ℕ) → pieces_from shelter mark place bs ≡ of_cut shelter mark (cut_outside shelter mark place bs)
+pub pieces_from-cut : (shelter : Shelter) (mark : ℕ) (place : ShelterState) (bs : List ℕ) → pieces_from shelter mark place bs ≡ of_cut shelter mark (cut_outside shelter mark place bs)
 pieces_from-cut shelter mark place [] = refl
 pieces_from-cut shelter mark place (b ∷ bs) =
     let later = place_after shelter place b in

@@ -1,5 +1,5 @@
 -- Space at the ends of a text is at the ends of its pieces.
-use Rattle.sip_route.proofs.Common.{◌≡◌, ℕ, ◌+◌, true, false, cond, eqb, List, [], ◌∷◌, ◌++◌, map, drop, refl, sym, ap, subst, ◌∙◌, inl, inr, arith, ◌&&◌, onto_first, prefix_len, cases_Bool, cond-false, eqb-true, false≢true, QuotesAndAngles, Place}
+use Rattle.sip_route.proofs.Common.{◌≡◌, ℕ, ◌+◌, true, false, cond, eqb, List, [], ◌∷◌, ◌++◌, map, drop, refl, sym, ap, subst, ◌∙◌, inl, inr, arith, ◌&&◌, onto_first, prefix_len, cases_Bool, cond-false, eqb-true, false≢true, QuotesAndAngles, ShelterState}
 use Rattle.sip_route.proofs.Common.{Plain, is_space, trim, trim_end, trim_start, pieces_from, is_plain, place_after, values_in, false_from_ne_true, common_steps}
 use Rattle.std.proofs.Common.{reverse}
 use Rattle.sip_lex.proofs.laws.Trims.{trim_end-reverse}
@@ -40,10 +40,10 @@ both-ends c b ps = grind arith
 behind-empty : (b : ℕ) (p : List ℕ) (ps all : List (List ℕ)) → all ≡ p ∷ ps → [] ∷ onto_last b all ≡ onto_last b ([] ∷ all)
 behind-empty b p ps all e = rw e refl
 
-not_plain : (place : Place) (b : ℕ) → eqb b 44 ≡ false → (is_plain place && eqb b 44) ≡ false
+not_plain : (place : ShelterState) (b : ℕ) → eqb b 44 ≡ false → (is_plain place && eqb b 44) ≡ false
 not_plain place b e = rw e (elim (is_plain place) as (λ t. (t && false) ≡ false) [ true ↦ refl | false ↦ refl ])
 
-pieces-last : (place : Place) (bs : List ℕ) (b : ℕ) → eqb b 44 ≡ false → pieces_from QuotesAndAngles 44 place (bs ++ b ∷ []) ≡ onto_last b (pieces_from QuotesAndAngles 44 place bs)
+pieces-last : (place : ShelterState) (bs : List ℕ) (b : ℕ) → eqb b 44 ≡ false → pieces_from QuotesAndAngles 44 place (bs ++ b ∷ []) ≡ onto_last b (pieces_from QuotesAndAngles 44 place bs)
 pieces-last place [] b e = cond-false (is_plain place && eqb b 44) ([] ∷ [] ∷ []) ((b ∷ []) ∷ []) (not_plain place b e)
 pieces-last place (c ∷ cs) b e =
     let later = place_after QuotesAndAngles place c in

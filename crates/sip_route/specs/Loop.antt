@@ -4,7 +4,7 @@ use Rattle.std.specs.Prelude.{ℕ, List, [], ◌∷◌, ◌++◌, codes, Option,
 use Rattle.std.specs.Fmt.{decimal}
 use Rattle.std.specs.List.{flat_map, join_with_byte}
 use Rattle.md5.specs.Md5.{md5}
-use Rattle.sip_text.specs.declared.needed.Needed.TheVariants.{CallId, From, To}
+use Rattle.sip_text.specs.declared.needed.MandatoryHeader.TheVariants.{CallId, From, To}
 use Rattle.sip_text.specs.Fields.{CSeqText, message_cseq, value_of}
 use Rattle.sip_text.specs.Name.{values_of}
 use Rattle.sip_text.specs.Tag.{tag_in}

@@ -11,7 +11,7 @@ use std::alloc::Allocator;
 
 /// What the first Max-Forwards line of a request says (RFC 3261 section 20.22).
 #[derive(Clone, Copy, Debug, PartialEq, Eq)]
-pub enum Hops {
+pub enum MaxForwards {
     /// There is no such line.
     Unsaid,
     /// So many more proxies, in one to three digits.
@@ -20,23 +20,23 @@ pub enum Hops {
     Wrong,
 }
 
-fn hops_in(value: &[u8]) -> Hops
+fn hops_in(value: &[u8]) -> MaxForwards
     ensures { result ≡ hops_in value.now }
 {
     if value.len() > 3 {
-        return Hops::Wrong;
+        return MaxForwards::Wrong;
     }
     match read_number(value, 255) {
-        None => Hops::Wrong,
-        Some(hops) => Hops::Said(hops as u8),
+        None => MaxForwards::Wrong,
+        Some(hops) => MaxForwards::Said(hops as u8),
     }
 }
 
-fn hops_if_any(value: Option<&[u8]>) -> Hops
+fn hops_if_any(value: Option<&[u8]>) -> MaxForwards
     ensures { result ≡ hops_if_any (option_copied value.entry) }
 {
     match value {
-        None => Hops::Unsaid,
+        None => MaxForwards::Unsaid,
         Some(value) => hops_in(value),
     }
 }
@@ -51,7 +51,7 @@ fn first_value<A: Allocator>(message: &Message<A>) -> Option<&[u8]>
 /// How many more proxies a request may pass, by its first Max-Forwards line (RFC 3261 sections 8.1.1.6
 /// and 16.3 step 3). The request may be passed on exactly where nothing is said, or one proxy or more.
 #[tactic(auto, using(crate::proofs::HopsPass::may_pass))]
-pub fn hops_of<A: Allocator>(message: &Message<A>) -> Hops
+pub fn max_forwards<A: Allocator>(message: &Message<A>) -> MaxForwards
     ensures value { result ≡ hops_of message.now }
     ensures passes { MayPass result ↔ IfSome (first_value hops_name message.now.headers) IsHops }
 {

@@ -9,7 +9,7 @@ ghost use Rattle.sip_text.specs.Seen.{view_line, views};
 
 use crate::fields::{add_field, add_number, add_optional};
 use md5::{Digest, Md5};
-use sip_text::{HeaderLine, HeaderLines, Message, StartLine, Values};
+use sip_text::{HeaderLine, HeaderLines, HeaderValues, Message, StartLine};
 use std::alloc::Allocator;
 
 /// The Request-URI of a request; empty for a response.
@@ -23,7 +23,7 @@ pub fn request_uri<A: Allocator>(message: &Message<A>) -> &[u8]
 }
 
 /// Adds the values left, a comma before each.
-fn add_more(hasher: &mut Md5, mut values: Values<'_, '_>)
+fn add_more(hasher: &mut Md5, mut values: HeaderValues<'_, '_>)
     ensures { (m : List ℕ) → Holds hasher.old m → Holds hasher.new (m ++ behind_commas values.entry) }
 {
     while let Some(value) = values.next() {
@@ -33,7 +33,7 @@ fn add_more(hasher: &mut Md5, mut values: Values<'_, '_>)
 }
 
 /// Adds the values left, a comma between two.
-fn add_joined(hasher: &mut Md5, mut values: Values<'_, '_>)
+fn add_joined(hasher: &mut Md5, mut values: HeaderValues<'_, '_>)
     ensures { (m : List ℕ) → Holds hasher.old m → Holds hasher.new (m ++ join_with_byte 44 values.entry) }
 {
     let Some(first) = values.next() else {

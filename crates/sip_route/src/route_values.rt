@@ -9,7 +9,7 @@ ghost use Rattle.sip_route.specs.Routes.{bracketed, hop_at_text};
 
 use crate::routes::{ROUTE, bracketed, hop_of};
 use sip_lex::{Shelter, cut_outside};
-use sip_text::{Message, Values};
+use sip_text::{HeaderValues, Message};
 use sip_uri::{Hop, uri_fault};
 use std::alloc::Allocator;
 use std::marker::Model;
@@ -29,7 +29,7 @@ pub enum FirstRoute {
 #[derive(Drop)]
 struct RouteValues<'a> {
     line: Option<&'a [u8]>,
-    lines: Values<'a, 'static>,
+    lines: HeaderValues<'a, 'static>,
 }
 
 impl<'a> Model for RouteValues<'a> {
@@ -50,7 +50,7 @@ fn cut_value(text: &[u8]) -> (&[u8], Option<&[u8]>)
 }
 
 /// The line that is begun, or else the next one.
-fn take_line<'a>(line: &mut Option<&'a [u8]>, lines: &mut Values<'a, 'static>) -> Option<&'a [u8]>
+fn take_line<'a>(line: &mut Option<&'a [u8]>, lines: &mut HeaderValues<'a, 'static>) -> Option<&'a [u8]>
     ensures some { IfSome result
         (λ text. values_left (option_copied line.old) lines.old ≡ values_in text.now ++ flat_map values_in lines.new) }
     ensures none { IfNone result (values_left (option_copied line.old) lines.old ≡ []) }

@@ -53,7 +53,7 @@ pub fn is_own(own: Own, hop: Option<Hop>) -> bool
 
 /// Whether the URI of a Route value, in its angle brackets, leads to the proxy itself (RFC 3261 section 16.4). A value without
 /// angle brackets leads nowhere.
-pub fn names_own(own: Own, value: &[u8]) -> bool
+pub fn leads_to_proxy(own: Own, value: &[u8]) -> bool
     ensures { result ≡ names_own own value.now }
 {
     is_own(own, hop_of(value))

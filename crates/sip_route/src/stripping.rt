@@ -1,7 +1,7 @@
 //! The first Route value taken away in place.
 
 ghost use Rattle.std.specs.Prelude.{◌≡◌, ◌++◌, ◌∷◌, List, ℕ};
-ghost use Rattle.sip_lex.specs.declared.sheltered.Place.TheVariants.{Plain};
+ghost use Rattle.sip_lex.specs.declared.sheltered.ShelterState.TheVariants.{Plain};
 ghost use Rattle.sip_lex.specs.declared.sheltered.Shelter.TheVariants.{QuotesAndAngles};
 ghost use Rattle.sip_lex.specs.Bytes.{trim};
 ghost use Rattle.sip_lex.specs.Sheltered.{cut_outside};
@@ -10,10 +10,10 @@ ghost use Rattle.sip_via.specs.Edits.{place_of};
 ghost use Rattle.sip_route.specs.Routes.{route_name, stripped};
 ghost use Rattle.sip_route.specs.inner.Stripping.{IsPart, Leaves, LineLeaves};
 
-use crate::routes::{ROUTE, names_own};
+use crate::routes::{ROUTE, leads_to_proxy};
 use sip_lex::{Shelter, cut_outside, trim_end, trim_start};
 use sip_text::{HeaderLines, Message};
-use sip_via::{Own, place_of};
+use sip_via::{Own, header_index};
 use std::alloc::Allocator;
 
 /// What is left of a Route line.
@@ -39,7 +39,7 @@ fn left_of(line: &[u8], own: Own) -> Left
     ensures { LineLeaves own line.now (cut_outside QuotesAndAngles 44 Plain line.now) result }
 {
     let (value, others) = cut_outside(line, b',', Shelter::QuotesAndAngles);
-    if !names_own(own, value) {
+    if !leads_to_proxy(own, value) {
         return Left::All;
     }
     match others {
@@ -66,7 +66,7 @@ pub fn strip<A: Allocator>(mut message: Message<A>, own: Own) -> Message<A>
     ensures { result ≡ stripped message own }
 {
     message.is_message();
-    let place = place_of(message.headers(), ROUTE);
+    let place = header_index(message.headers(), ROUTE);
     match first_left(message.headers(), place, own) {
         Left::All => {}
         Left::Nothing => message.remove_header(place),

@@ -1,6 +1,6 @@
 //! What the faults of the crates that read and build messages say.
 use crate::holds::holds;
-use sip_text::{Needed, ReadFault};
+use sip_text::{MandatoryHeader, ReadFault};
 use sip_uri::UriFault;
 use sip_via::{BuildFault, ViaFault};
 use std::alloc::{AllocError, Global};
@@ -45,7 +45,7 @@ fn each_fault_has_words(rt: HostRuntime) {
         are(build, "out of memory"),
         "of a message that is built",
     );
-    let read = words_of_read(rt.alloc(), &ReadFault::Missing(Needed::Via));
+    let read = words_of_read(rt.alloc(), &ReadFault::Missing(MandatoryHeader::Via));
     holds(
         &rt,
         are(read, "a header field that every message has is missing"),

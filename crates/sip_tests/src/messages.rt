@@ -4,7 +4,7 @@ ghost use Rattle.sip_text.specs.Name.{first_value};
 ghost use Rattle.sip_route.specs.Hops.{IsHops, MayPass, hops_name};
 
 use crate::bytes::is;
-use sip_route::{Hops, hops_of};
+use sip_route::{MaxForwards, max_forwards};
 use sip_text::Message;
 use sip_uri::{Hop, Transport};
 use sip_via::Own;
@@ -170,13 +170,13 @@ fn reads_back(alloc: Global, message: &Message<Global>) -> bool {
 }
 
 /// Whether a request that says this of hops may be passed on.
-fn lets_pass(hops: Hops) -> bool
+fn lets_pass(hops: MaxForwards) -> bool
     ensures { IsTrue result → MayPass hops }
 {
     match hops {
-        Hops::Unsaid => true,
-        Hops::Said(more) => more >= 1,
-        Hops::Wrong => false,
+        MaxForwards::Unsaid => true,
+        MaxForwards::Said(more) => more >= 1,
+        MaxForwards::Wrong => false,
     }
 }
 
@@ -184,6 +184,6 @@ fn lets_pass(hops: Hops) -> bool
 pub fn may_pass(request: &Message<Global>) -> bool
     ensures { IsTrue result → IfSome (first_value hops_name request.now.headers) IsHops }
 {
-    let hops = hops_of(request);
+    let hops = max_forwards(request);
     lets_pass(hops)
 }

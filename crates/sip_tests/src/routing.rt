@@ -3,10 +3,7 @@ use crate::bytes::holds_of;
 use crate::messages::{OWN, REQUEST, message_of, spells};
 use crate::rows::holds_in_row;
 use sip_message::strip_route;
-use sip_route::{
-    FirstRoute, Hops, first_route, hops_of, is_own, keys_tell_senders, routes_are_readable, strip,
-    stripping_keeps_the_rest,
-};
+use sip_route::{FirstRoute, MaxForwards, first_route, is_own, keys_tell_senders, max_forwards, routes_are_readable, strip, stripping_keeps_the_rest};
 use sip_text::Message;
 use sip_uri::{Hop, Transport};
 use std::alloc::Global;
@@ -19,28 +16,28 @@ fn request_with(alloc: Global, given: &[u8]) -> Option<Message<Global>> {
 }
 
 /// Lines, and what they say of hops.
-const HOPS: [(&[u8], Hops); 16] = [
-    (b"Subject: x", Hops::Unsaid),
-    (b"Max-Forward: 70", Hops::Unsaid),
-    (b"Max-Forwards: 70", Hops::Said(70)),
-    (b"MAX-FORWARDS:0", Hops::Said(0)),
-    (b"max-forwards: 255", Hops::Said(255)),
-    (b"Max-Forwards: 007", Hops::Said(7)),
-    (b"Max-Forwards: 1\r\nMax-Forwards: x", Hops::Said(1)),
-    (b"Max-Forwards: x\r\nMax-Forwards: 1", Hops::Wrong),
-    (b"Max-Forwards:", Hops::Wrong),
-    (b"Max-Forwards: 256", Hops::Wrong),
-    (b"Max-Forwards: 0070", Hops::Wrong),
-    (b"Max-Forwards: +7", Hops::Wrong),
-    (b"Max-Forwards: -1", Hops::Wrong),
-    (b"Max-Forwards: 7 0", Hops::Wrong),
-    (b"Max-Forwards: 7,7", Hops::Wrong),
-    (b"Max-Forwards: 7x", Hops::Wrong),
+const HOPS: [(&[u8], MaxForwards); 16] = [
+    (b"Subject: x", MaxForwards::Unsaid),
+    (b"Max-Forward: 70", MaxForwards::Unsaid),
+    (b"Max-Forwards: 70", MaxForwards::Said(70)),
+    (b"MAX-FORWARDS:0", MaxForwards::Said(0)),
+    (b"max-forwards: 255", MaxForwards::Said(255)),
+    (b"Max-Forwards: 007", MaxForwards::Said(7)),
+    (b"Max-Forwards: 1\r\nMax-Forwards: x", MaxForwards::Said(1)),
+    (b"Max-Forwards: x\r\nMax-Forwards: 1", MaxForwards::Wrong),
+    (b"Max-Forwards:", MaxForwards::Wrong),
+    (b"Max-Forwards: 256", MaxForwards::Wrong),
+    (b"Max-Forwards: 0070", MaxForwards::Wrong),
+    (b"Max-Forwards: +7", MaxForwards::Wrong),
+    (b"Max-Forwards: -1", MaxForwards::Wrong),
+    (b"Max-Forwards: 7 0", MaxForwards::Wrong),
+    (b"Max-Forwards: 7,7", MaxForwards::Wrong),
+    (b"Max-Forwards: 7x", MaxForwards::Wrong),
 ];
 
-fn hops_with(alloc: Global, given: &[u8]) -> Option<Hops> {
+fn hops_with(alloc: Global, given: &[u8]) -> Option<MaxForwards> {
     match request_with(alloc, given) {
-        Some(request) => Some(hops_of(&request)),
+        Some(request) => Some(max_forwards(&request)),
         None => None,
     }
 }

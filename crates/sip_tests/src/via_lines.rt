@@ -5,10 +5,7 @@ use crate::messages::read;
 use sip_route::request_uri;
 use sip_text::HeaderLines;
 use sip_uri::Transport;
-use sip_via::{
-    BranchName, Own, begins_named, has_second_via, own_via, place_of, split_named, top_and_second,
-    top_via,
-};
+use sip_via::{BranchName, Own, first_is, has_second_via, header_index, headers_around, own_via, top_and_second, top_via};
 use std::alloc::Global;
 
 const REQUEST: &[u8] =
@@ -19,8 +16,8 @@ const TWICE: &[u8] =
 
 /// The place of that name among the lines behind the Route line.
 fn place_behind_route(headers: HeaderLines<'_>, name: &[u8]) -> Option<usize> {
-    match split_named(headers, b"route") {
-        Some((_, behind)) => Some(place_of(behind, name)),
+    match headers_around(headers, b"route") {
+        Some((_, behind)) => Some(header_index(behind, name)),
         None => None,
     }
 }
@@ -28,7 +25,7 @@ fn place_behind_route(headers: HeaderLines<'_>, name: &[u8]) -> Option<usize> {
 /// The place of that name among the lines of the request, or those behind its Route line.
 fn place_in(alloc: Global, name: &[u8], whole: bool) -> Option<usize> {
     match read(alloc, REQUEST) {
-        Some(request) if whole => Some(place_of(request.headers(), name)),
+        Some(request) if whole => Some(header_index(request.headers(), name)),
         Some(request) => place_behind_route(request.headers(), name),
         None => None,
     }
@@ -39,7 +36,7 @@ fn any_begin(lines: HeaderLines<'_>, name: &[u8]) -> Option<bool> {
     if lines.is_empty() {
         None
     } else {
-        Some(begins_named(lines, name))
+        Some(first_is(lines, name))
     }
 }
 
@@ -54,7 +51,7 @@ fn begins(alloc: Global, name: &[u8]) -> Option<bool> {
 /// How many lines of the request stand behind the first of that name.
 fn lines_behind(alloc: Global, name: &[u8]) -> Option<usize> {
     match read(alloc, REQUEST) {
-        Some(request) => match split_named(request.headers(), name) {
+        Some(request) => match headers_around(request.headers(), name) {
             Some((_, after)) => Some(after.len()),
             None => None,
         },

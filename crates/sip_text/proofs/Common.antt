@@ -34,5 +34,5 @@ pub use Rattle.sip_text.specs.Tag.{tag_of_params}
 pub use Rattle.sip_text.specs.Text.{HeaderText, MessageText, Request, Response, StartText, header_text, pieces_text, saturated, start_line, status_text}
 pub use Rattle.sip_text.specs.declared.fields.BodyLength.{BodyLength}
 pub use Rattle.sip_text.specs.declared.fields.BodyLength.TheVariants.{Bytes, Unsaid, Wrong}
-pub use Rattle.sip_text.specs.declared.needed.Needed.{Needed}
+pub use Rattle.sip_text.specs.declared.needed.MandatoryHeader.{MandatoryHeader}
 pub use Rattle.sip_text.specs.inner.Heads.{continued, or_bad, prepended, valued, with_part}

@@ -1,7 +1,7 @@
 -- What a text ends with, and what stands in it.
 use Rattle.sip_text.proofs.Common.{◌≡◌, ℕ, ◌-◌, ◌≤◌, Bool, List, [], ◌∷◌, ◌++◌, length, take, drop, Option, Some, None, refl, sym, ap, subst, ◌∙◌, append_assoc, arith, take-append-drop, cond_both, is_space, cut, common_steps, part_at}
 use Rattle.std.proofs.lemmas.List.{drop-drop, take_rest}
-use Rattle.sip_text.specs.declared.place.Place.{Place}
+use Rattle.sip_text.specs.declared.place.PartPlace.{PartPlace}
 use Rattle.sip_text.specs.inner.Kept.{IsAt, IsEnd, IsWithin, moved}
 use Rattle.sip_text.proofs.Places.{part_grown}
 
@@ -36,7 +36,7 @@ at_front part more = grind (arith, common_steps)
 pub at_end : (text end part more : List ℕ) → end ≡ part ++ more → IsEnd text end → IsAt text (length text - length end) part
 at_end text end part more e h = end_part text end (length part) h ∙ ap (take (length part)) e ∙ at_front part more
 
-pub moved_part : (text line : List ℕ) (at : ℕ) (place : Place) → IsAt text at line → IsWithin (length line) place → part_at text (moved at place) ≡ part_at line place
+pub moved_part : (text line : List ℕ) (at : ℕ) (place : PartPlace) → IsAt text at line → IsWithin (length line) place → part_at text (moved at place) ≡ part_at line place
 moved_part text line at place is within =
     let back = drop (length line) (drop at text) in
     let split : drop at text ≡ line ++ back = sym (take-append-drop (length line) (drop at text)) ∙ ap (λ (xs : List ℕ). xs ++ back) is in

@@ -9,7 +9,7 @@ use Rattle.std.proofs.lemmas.Bool.{not-true}
 use Rattle.std.proofs.lemmas.List.{reverse-reverse, map_push, take-take}
 use Rattle.sip_lex.proofs.laws.Trims.{trim_end-reverse, trim_end-whole, trim_start-none, trim_start-whole}
 use Rattle.sip_text.specs.declared.place.LinePlaces.{LinePlaces}
-use Rattle.sip_text.specs.declared.place.Place.{Place}
+use Rattle.sip_text.specs.declared.place.PartPlace.{PartPlace}
 use Rattle.sip_text.specs.inner.Kept.{AreLinesWithin, IsAt, IsEnd, IsLineWithin, IsWithin, line_moved, moved}
 use Rattle.sip_text.proofs.Ends.{at_end, at_front, end_length, moved_part}
 use Rattle.sip_text.proofs.Places.{lines_alike, lines_room, part_grown}
@@ -88,7 +88,7 @@ value_again line h e = let v = value_trimmed line h e in ap trim v.1 ∙ trim_ag
 
 -- ---- in the kept text
 
-pub part_kept : (old new : List ℕ) (place : Place) → take (length old) new ≡ old → IsWithin (length old) place → part_at new place ≡ part_at old place
+pub part_kept : (old new : List ℕ) (place : PartPlace) → take (length old) new ≡ old → IsWithin (length old) place → part_at new place ≡ part_at old place
 part_kept old new place begins within =
     let back = drop (length old) new in
     let split : new ≡ old ++ back = sym (take-append-drop (length old) new) ∙ ap (λ (xs : List ℕ). xs ++ back) begins in
@@ -113,7 +113,7 @@ header_plain kept line text at places moved_places is within e space m =
     let same : record { name = h.name; value = trim h.value } ≡ header_in kept moved_places = cc in
     whole ∙ ap (λ (x : HeaderText). put x (headers_at text)) same
 
-pub header_continued : (kept new line : List ℕ) (at : ℕ) (places moved_places : LinePlaces) (value : Place) (t : Option Tail) (o : Option Headers) → IsAt kept at line → at + length line ≤ length kept → IsLineWithin (length line) places → found (header_in line places) ≡ header_of line [] → moved_places ≡ line_moved at places → take (length kept) new ≡ kept → continued (part_at line places.value) t ≡ valued (part_at new value) o → front_header line t ≡ put (header_in new (record { name = moved_places.name; value = value })) o
+pub header_continued : (kept new line : List ℕ) (at : ℕ) (places moved_places : LinePlaces) (value : PartPlace) (t : Option Tail) (o : Option Headers) → IsAt kept at line → at + length line ≤ length kept → IsLineWithin (length line) places → found (header_in line places) ≡ header_of line [] → moved_places ≡ line_moved at places → take (length kept) new ≡ kept → continued (part_at line places.value) t ≡ valued (part_at new value) o → front_header line t ≡ put (header_in new (record { name = moved_places.name; value = value })) o
 header_continued kept new line at places moved_places value t o is room within e m begins c =
     let h = header_in line places in
     let whole = front_lines line (part_at new value) h t o e c in
@@ -130,7 +130,7 @@ kept_at whole kept rest line after begins h e =
     let split : rest ≡ line ++ ((13 ∷ 10 ∷ []) ++ after) = e ∙ append_assoc line (13 ∷ 10 ∷ []) after in
     let at = at_end whole rest line ((13 ∷ 10 ∷ []) ++ after) split h in
     let size = end_length whole rest h in
-    let place : Place = record { start = length whole - length rest; len = length line } in
+    let place : PartPlace = record { start = length whole - length rest; len = length line } in
     let within : IsWithin (length whole) place = omega (arith, ap length split, length-append line ((13 ∷ 10 ∷ []) ++ after)) in
     part_kept whole kept place begins within ∙ at
 

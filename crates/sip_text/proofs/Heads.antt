@@ -1,5 +1,5 @@
 -- What was read where reading answered.
-use Rattle.sip_text.proofs.Common.{◌≡◌, ◌∙◌, ℕ, true, cond, List, Option, Some, None, Result, Ok, Err, ap, sym, cond-true, line_at, pieces, Needed, cseq_fits, missing, said_length, after_headers, after_line, after_start, if_present, or_bad, BadCSeq}
+use Rattle.sip_text.proofs.Common.{◌≡◌, ◌∙◌, ℕ, true, cond, List, Option, Some, None, Result, Ok, Err, ap, sym, cond-true, line_at, pieces, MandatoryHeader, cseq_fits, missing, said_length, after_headers, after_line, after_start, if_present, or_bad, BadCSeq}
 use Rattle.sip_text.proofs.Common.{Fault, Headers, headers_at, skip, start_of, HeaderText, StartText, arith}
 use Rattle.sip_text.specs.Message.{body_at, checked, read_at}
 use Rattle.sip_text.proofs.Joins.{join_pieces}
@@ -13,9 +13,9 @@ use Rattle.sip_text.proofs.Common.{Bool, IsLine, Lacks, headers_in, part_at}
 use Rattle.sip_text.proofs.laws.Good.{headers_good}
 use Rattle.sip_text.proofs.Spelled.{line_is}
 use Rattle.sip_text.proofs.StartLines.{start_found, start_line_good}
-use Rattle.sip_text.specs.declared.needed.Needed.TheVariants.{CSeq}
+use Rattle.sip_text.specs.declared.needed.MandatoryHeader.TheVariants.{CSeq}
 use Rattle.sip_text.specs.declared.place.LinePlaces.{LinePlaces}
-use Rattle.sip_text.specs.declared.place.Place.{Place}
+use Rattle.sip_text.specs.declared.place.PartPlace.{PartPlace}
 use Rattle.sip_text.specs.Fields.{cseq_in, fits_start, value_of}
 use Rattle.sip_text.specs.Message.{IsHead}
 use Rattle.sip_text.proofs.HeaderPlaces.{part_kept}
@@ -28,7 +28,7 @@ some_headers o x e = grind arith
 
 pub checked_is : (s : StartText) (hs : List HeaderText) (rest : List ℕ) → missing hs ≡ None → cseq_fits s hs ≡ true → checked s hs rest ≡ body_at s hs rest (said_length hs)
 unfolding checked
-checked_is s hs rest needed fits = ap (λ (x : Option Needed). if_present x (cond (cseq_fits s hs) (body_at s hs rest (said_length hs)) (Err BadCSeq))) needed ∙ cond-true _ _ _ fits
+checked_is s hs rest needed fits = ap (λ (x : Option MandatoryHeader). if_present x (cond (cseq_fits s hs) (body_at s hs rest (said_length hs)) (Err BadCSeq))) needed ∙ cond-true _ _ _ fits
 
 pub all_read : (text line rest behind : List ℕ) (s : StartText) (hs : List HeaderText) → Some (line, rest) ≡ line_at (skip text) → start_of line ≡ Ok s → or_bad (headers_at rest) ≡ Ok (hs, pieces 10 behind) → missing hs ≡ None → cseq_fits s hs ≡ true → read_at text ≡ body_at s hs behind (said_length hs)
 unfolding read_at
@@ -41,7 +41,7 @@ all_read text line rest behind s hs at start headers needed fits =
 
 checked_wrong : (s : StartText) (hs : List HeaderText) (rest : List ℕ) → missing hs ≡ None → cseq_fits s hs ≡ false → checked s hs rest ≡ Err BadCSeq
 unfolding checked
-checked_wrong s hs rest needed fits = ap (λ (x : Option Needed). if_present x (cond (cseq_fits s hs) (body_at s hs rest (said_length hs)) (Err BadCSeq))) needed ∙ cond-false _ _ _ fits
+checked_wrong s hs rest needed fits = ap (λ (x : Option MandatoryHeader). if_present x (cond (cseq_fits s hs) (body_at s hs rest (said_length hs)) (Err BadCSeq))) needed ∙ cond-false _ _ _ fits
 
 pub wrong_read : (text line rest behind : List ℕ) (s : StartText) (hs : List HeaderText) → Some (line, rest) ≡ line_at (skip text) → start_of line ≡ Ok s → or_bad (headers_at rest) ≡ Ok (hs, pieces 10 behind) → missing hs ≡ None → cseq_fits s hs ≡ false → read_at text ≡ Err BadCSeq
 unfolding read_at
@@ -106,11 +106,11 @@ module _ (text begin line rest behind kept : List ℕ) (places : StartPlaces) (l
   pub start_is : (start : StartPlaces) → start ≡ start_moved (length text - length begin) places → start_in kept start ≡ start_in line places
   start_is start e = ap (start_in kept) e ∙ start_kept text begin line rest kept places read.first read.begins read.within
 
-  lacks_checked : (name : Needed) (all : List ℕ) → missing headers ≡ Some name → checked start_text headers all ≡ Err (Lacks name)
+  lacks_checked : (name : MandatoryHeader) (all : List ℕ) → missing headers ≡ Some name → checked start_text headers all ≡ Err (Lacks name)
   unfolding checked
-  lacks_checked name all e = ap (λ (x : Option Needed). if_present x (cond (cseq_fits start_text headers) (body_at start_text headers all (said_length headers)) (Err BadCSeq))) e
+  lacks_checked name all e = ap (λ (x : Option MandatoryHeader). if_present x (cond (cseq_fits start_text headers) (body_at start_text headers all (said_length headers)) (Err BadCSeq))) e
 
-  pub lacks_read : (name : Needed) → Some name ≡ missing (headers_in kept lines) → read_at text ≡ Err (Lacks name)
+  pub lacks_read : (name : MandatoryHeader) → Some name ≡ missing (headers_in kept lines) → read_at text ≡ Err (Lacks name)
   unfolding read_at
   lacks_read name e =
       ap after_line (sym read.at)
@@ -134,7 +134,7 @@ module _ (text begin line rest behind kept : List ℕ) (places : StartPlaces) (l
         cseq = fits;
       })
 
-  pub body_read : {A : Type 0} (start : StartPlaces) (end : Place) (said : BodyLength) (r : Result MessageText (ReadFault A)) → start ≡ start_moved (length text - length begin) places → None ≡ missing (headers_in kept lines) → cseq_fits (start_in line places) (headers_in kept lines) ≡ true → IsWithin (length text) end → part_at text end ≡ take (length behind) behind → said ≡ said_length (headers_in kept lines) → Gives (λ m. m) r (body_at (start_in kept start) (headers_in kept lines) (part_at kept end) said) → Gives (λ m. m) r (read_at text)
+  pub body_read : {A : Type 0} (start : StartPlaces) (end : PartPlace) (said : BodyLength) (r : Result MessageText (ReadFault A)) → start ≡ start_moved (length text - length begin) places → None ≡ missing (headers_in kept lines) → cseq_fits (start_in line places) (headers_in kept lines) ≡ true → IsWithin (length text) end → part_at text end ≡ take (length behind) behind → said ≡ said_length (headers_in kept lines) → Gives (λ m. m) r (body_at (start_in kept start) (headers_in kept lines) (part_at kept end) said) → Gives (λ m. m) r (read_at text)
   body_read start end said r e needed fits within part length_is g =
       let there = all_read text line rest behind start_text headers read.at read.start read.headers (sym needed) fits in
       let same : read_at text ≡ body_at start_text headers behind said = there ∙ ap (body_at start_text headers behind) (sym length_is) in

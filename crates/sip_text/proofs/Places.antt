@@ -5,10 +5,10 @@ use Rattle.std.proofs.Common.{min, slice_set}
 use Rattle.std.specs.List.{remove}
 use Rattle.std.proofs.lemmas.List.{drop-drop, drop-take, take-take}
 use Rattle.sip_text.specs.declared.place.LinePlaces.{LinePlaces}
-use Rattle.sip_text.specs.declared.place.Place.{Place}
+use Rattle.sip_text.specs.declared.place.PartPlace.{PartPlace}
 use Rattle.sip_text.specs.declared.place.StartPlaces.{StartPlaces}
 use Rattle.sip_text.specs.declared.place.StartPlaces.TheVariants.{Request, Response}
-use Rattle.sip_text.specs.inner.Kept.{AreLinesWithin, IsKept, IsLineWithin, IsStartWithin, IsWithin, message_in}
+use Rattle.sip_text.specs.inner.Kept.{AreLinesWithin, IsKept, IsLineWithin, IsStartWithin, IsWithin, placed_message}
 
 -- ---- a part of a part
 
@@ -30,7 +30,7 @@ part_of_part start len skip more skipped text e = grind (arith, min_take, skippe
 
 -- ---- a text that grew
 
-pub part_grown : (text more : List ℕ) (place : Place) → IsWithin (length text) place → part_at (text ++ more) place ≡ part_at text place
+pub part_grown : (text more : List ℕ) (place : PartPlace) → IsWithin (length text) place → part_at (text ++ more) place ≡ part_at text place
 part_grown text more place within = grind (arith, common_steps)
 
 pub start_grown : (text more : List ℕ) (start : StartPlaces) → IsStartWithin (length text) start → start_in (text ++ more) start ≡ start_in text start
@@ -66,7 +66,7 @@ line_within room (x ∷ lines) (suc n) line within lt e = line_within room lines
 
 -- what two texts show alike at each place of the first
 abbrev pub Alike : List ℕ → List ℕ → Type 0
-Alike text other = (place : Place) → IsWithin (length text) place → part_at other place ≡ part_at text place
+Alike text other = (place : PartPlace) → IsWithin (length text) place → part_at other place ≡ part_at text place
 
 pub lines_alike : (text other : List ℕ) (lines : List LinePlaces) → Alike text other → AreLinesWithin (length text) lines → headers_in other lines ≡ headers_in text lines
 lines_alike text other [] alike within = refl
@@ -76,7 +76,7 @@ lines_alike text other (x ∷ lines) alike within =
     let value = alike x.value within.0.1 in
     cc
 
-lines_changed : (text other : List ℕ) (change : List ℕ → List ℕ) (lines : List LinePlaces) (n : ℕ) (line : LinePlaces) (place : Place) → Alike text other → AreLinesWithin (length text) lines → n < length lines → line ≡ get_or lines n line → part_at other place ≡ change (part_at text line.value) → headers_in other (slice_set lines n (record { name = line.name; value = place })) ≡ valued_at change n (headers_in text lines)
+lines_changed : (text other : List ℕ) (change : List ℕ → List ℕ) (lines : List LinePlaces) (n : ℕ) (line : LinePlaces) (place : PartPlace) → Alike text other → AreLinesWithin (length text) lines → n < length lines → line ≡ get_or lines n line → part_at other place ≡ change (part_at text line.value) → headers_in other (slice_set lines n (record { name = line.name; value = place })) ≡ valued_at change n (headers_in text lines)
 lines_changed text other change [] n line place alike within lt at is = absurd (omega arith)
 lines_changed text other change (x ∷ lines) zero line place alike within lt at is =
     let rest = lines_alike text other lines alike within.1 in
@@ -92,20 +92,20 @@ lines_changed text other change (x ∷ lines) (suc n) line place alike within lt
 
 -- ---- messages of which one header line is another
 
-abbrev with_line : LinePlaces → Place → LinePlaces
+abbrev with_line : LinePlaces → PartPlace → LinePlaces
 with_line line place = record { name = line.name; value = place }
 
-abbrev behind : List ℕ → List ℕ → Place
+abbrev behind : List ℕ → List ℕ → PartPlace
 behind text more = record { start = length text; len = length more }
 
-pub value_is_put : (text value : List ℕ) (start : StartPlaces) (lines : List LinePlaces) (body : Place) (n : ℕ) (line : LinePlaces) → IsKept text start lines body → n < length lines → line ≡ get_or lines n line → message_in (text ++ value) start (slice_set lines n (with_line line (behind text value))) body ≡ with_value_at n value (message_in text start lines body)
+pub value_is_put : (text value : List ℕ) (start : StartPlaces) (lines : List LinePlaces) (body : PartPlace) (n : ℕ) (line : LinePlaces) → IsKept text start lines body → n < length lines → line ≡ get_or lines n line → placed_message (text ++ value) start (slice_set lines n (with_line line (behind text value))) body ≡ with_value_at n value (placed_message text start lines body)
 value_is_put text value start lines body n line kept lt at =
     let first = start_grown text value start kept.start_within in
     let all = lines_changed text (text ++ value) (λ _. value) lines n line (behind text value) (part_grown text value) kept.lines_within lt at (part_behind text value) in
     let last = part_grown text value body kept.body_within in
     cc
 
-pub value_is_kept : (text value : List ℕ) (start : StartPlaces) (lines : List LinePlaces) (body : Place) (n : ℕ) (line : LinePlaces) (m : MessageText) → IsKept text start lines body → message_in text start lines body ≡ m → n < length lines → line ≡ get_or lines n line → IsMessage (with_value_at n value m) → IsKept (text ++ value) start (slice_set lines n (with_line line (behind text value))) body
+pub value_is_kept : (text value : List ℕ) (start : StartPlaces) (lines : List LinePlaces) (body : PartPlace) (n : ℕ) (line : LinePlaces) (m : MessageText) → IsKept text start lines body → placed_message text start lines body ≡ m → n < length lines → line ≡ get_or lines n line → IsMessage (with_value_at n value m) → IsKept (text ++ value) start (slice_set lines n (with_line line (behind text value))) body
 value_is_kept text value start lines body n line m kept is lt at good =
     let more : length text + length value ≡ length (text ++ value) = grind (arith, common_steps) in
     let room : length text ≤ length (text ++ value) = omega arith in
@@ -117,12 +117,12 @@ value_is_kept text value start lines body n line m kept is lt at good =
       message = subst IsMessage (ap (with_value_at n value) (sym is) ∙ sym (value_is_put text value start lines body n line kept lt at)) good;
     }
 
-pub part_is_put : (text : List ℕ) (start : StartPlaces) (lines : List LinePlaces) (body : Place) (n from len : ℕ) (line : LinePlaces) (place : Place) → IsKept text start lines body → n < length lines → line ≡ get_or lines n line → ((other : List ℕ) → part_at other place ≡ take len (drop from (part_at other line.value))) → message_in text start (slice_set lines n (with_line line place)) body ≡ with_part_at n from len (message_in text start lines body)
+pub part_is_put : (text : List ℕ) (start : StartPlaces) (lines : List LinePlaces) (body : PartPlace) (n from len : ℕ) (line : LinePlaces) (place : PartPlace) → IsKept text start lines body → n < length lines → line ≡ get_or lines n line → ((other : List ℕ) → part_at other place ≡ take len (drop from (part_at other line.value))) → placed_message text start (slice_set lines n (with_line line place)) body ≡ with_part_at n from len (placed_message text start lines body)
 part_is_put text start lines body n from len line place kept lt at is =
     let all = lines_changed text text (λ v. take len (drop from v)) lines n line place (λ p w. refl) kept.lines_within lt at (is text) in
     cc
 
-pub part_is_kept : (text : List ℕ) (start : StartPlaces) (lines : List LinePlaces) (body : Place) (n from len : ℕ) (line : LinePlaces) (place : Place) (m : MessageText) → IsKept text start lines body → message_in text start lines body ≡ m → n < length lines → line ≡ get_or lines n line → ((other : List ℕ) → part_at other place ≡ take len (drop from (part_at other line.value))) → place.start + place.len ≤ line.value.start + line.value.len → IsMessage (with_part_at n from len m) → IsKept text start (slice_set lines n (with_line line place)) body
+pub part_is_kept : (text : List ℕ) (start : StartPlaces) (lines : List LinePlaces) (body : PartPlace) (n from len : ℕ) (line : LinePlaces) (place : PartPlace) (m : MessageText) → IsKept text start lines body → placed_message text start lines body ≡ m → n < length lines → line ≡ get_or lines n line → ((other : List ℕ) → part_at other place ≡ take len (drop from (part_at other line.value))) → place.start + place.len ≤ line.value.start + line.value.len → IsMessage (with_part_at n from len m) → IsKept text start (slice_set lines n (with_line line place)) body
 part_is_kept text start lines body n from len line place m kept is lt at part within good =
     let old = line_within (length text) lines n line kept.lines_within lt at in
     record {
@@ -146,10 +146,10 @@ headers_without text [] (suc n) = refl
 headers_without text (x ∷ lines) zero = refl
 headers_without text (x ∷ lines) (suc n) = ap (λ (hs : List HeaderText). header_in text x ∷ hs) (headers_without text lines n)
 
-pub line_is_gone : (text : List ℕ) (start : StartPlaces) (lines : List LinePlaces) (body : Place) (n : ℕ) → message_in text start (remove lines n) body ≡ without_line_at n (message_in text start lines body)
+pub line_is_gone : (text : List ℕ) (start : StartPlaces) (lines : List LinePlaces) (body : PartPlace) (n : ℕ) → placed_message text start (remove lines n) body ≡ without_line_at n (placed_message text start lines body)
 line_is_gone text start lines body n = let all = headers_without text lines n in cc
 
-pub gone_is_kept : (text : List ℕ) (start : StartPlaces) (lines : List LinePlaces) (body : Place) (n : ℕ) (m : MessageText) → IsKept text start lines body → message_in text start lines body ≡ m → IsMessage (without_line_at n m) → IsKept text start (remove lines n) body
+pub gone_is_kept : (text : List ℕ) (start : StartPlaces) (lines : List LinePlaces) (body : PartPlace) (n : ℕ) (m : MessageText) → IsKept text start lines body → placed_message text start lines body ≡ m → IsMessage (without_line_at n m) → IsKept text start (remove lines n) body
 gone_is_kept text start lines body n m kept is good = record {
   start_within = kept.start_within;
   lines_within = lines_without (length text) lines n kept.lines_within;
@@ -158,5 +158,5 @@ gone_is_kept text start lines body n m kept is good = record {
 }
 
 -- as many lines as headers
-pub lines_length : (text : List ℕ) (start : StartPlaces) (lines : List LinePlaces) (body : Place) (m : MessageText) (n : ℕ) → message_in text start lines body ≡ m → n < length m.headers → n < length lines
+pub lines_length : (text : List ℕ) (start : StartPlaces) (lines : List LinePlaces) (body : PartPlace) (m : MessageText) (n : ℕ) → placed_message text start lines body ≡ m → n < length m.headers → n < length lines
 lines_length text start lines body m n is lt = grind (arith, common_steps)

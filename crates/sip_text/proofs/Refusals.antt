@@ -1,6 +1,6 @@
 -- Texts that are refused, by the relation and by the function.
 use Rattle.sip_text.proofs.Common.{◌≡◌, ◌≢◌, ℕ, ◌<◌, cond, eqb, List, [], ◌∷◌, ◌++◌, length, get_or, Option, Some, None, Result, Ok, Err, refl, sym, ap, subst, ◌∙◌, inl, inr, arith, ◌&&◌, join_with_byte, cases_Bool, cond_both}
-use Rattle.sip_text.proofs.Common.{cond-true, cond-false, false≢true, ended, line_at, pieces, line_at-again, line_at-takes, BodyLength, Bytes, Wrong, Needed, cseq_fits, missing, said_length}
+use Rattle.sip_text.proofs.Common.{cond-true, cond-false, false≢true, ended, line_at, pieces, line_at-again, line_at-takes, BodyLength, Bytes, Wrong, MandatoryHeader, cseq_fits, missing, said_length}
 use Rattle.sip_text.proofs.Common.{after_headers, after_line, after_start, head_of, if_present, Fault, BadStart, BadHeader, Lacks, BadVersion, BadStatus, Short, BadCSeq, BadLength, Headers, headers_at, skip, start_of, HasStartFault, HeaderText}
 use Rattle.sip_text.proofs.Common.{MessageText, StartText}
 use Rattle.sip_text.specs.Message.{body_at, checked, read_at}
@@ -63,7 +63,7 @@ body_refused : (text : List ℕ) (start : StartText) (hs : List HeaderText) (res
 unfolding body_at
 body_refused text start hs rest said f head fields at e = grind arith
 
-fields_refused : (text : List ℕ) (start : StartText) (hs : List HeaderText) (rest : List ℕ) (o : Option Needed) (f : Fault) → HasHead text start hs rest → missing hs ≡ o → if_present o (cond (cseq_fits start hs) (body_at start hs rest (said_length hs)) (Err BadCSeq)) ≡ Err f → IsRefused text f
+fields_refused : (text : List ℕ) (start : StartText) (hs : List HeaderText) (rest : List ℕ) (o : Option MandatoryHeader) (f : Fault) → HasHead text start hs rest → missing hs ≡ o → if_present o (cond (cseq_fits start hs) (body_at start hs rest (said_length hs)) (Err BadCSeq)) ≡ Err f → IsRefused text f
 fields_refused text start hs rest (Some name) f head at e = subst (IsRefused text) (same_fault (Lacks name) f e) (start, hs, rest, head, at)
 fields_refused text start hs rest None f head at e =
     elim (cases_Bool (cseq_fits start hs)) [
@@ -120,10 +120,10 @@ no_headers start rest (Some x) none at = let are = headers_found rest x at in ab
 head_again : (text : List ℕ) (start : StartText) (hs : List HeaderText) (rest : List ℕ) → HasHead text start hs rest → read_at text ≡ checked start hs rest
 head_again text start hs rest h = begins_again text start h.behind h.begins ∙ ap (after_headers start) (has_headers h.behind hs rest h.headers) ∙ ap (checked start hs) (join_pieces rest)
 
-abbrev fields_read : StartText → List HeaderText → List ℕ → Option Needed → Result MessageText Fault
+abbrev fields_read : StartText → List HeaderText → List ℕ → Option MandatoryHeader → Result MessageText Fault
 fields_read start hs rest o = if_present o (cond (cseq_fits start hs) (body_at start hs rest (said_length hs)) (Err BadCSeq))
 
-checked_by : (start : StartText) (hs : List HeaderText) (rest : List ℕ) (o : Option Needed) → missing hs ≡ o → checked start hs rest ≡ fields_read start hs rest o
+checked_by : (start : StartText) (hs : List HeaderText) (rest : List ℕ) (o : Option MandatoryHeader) → missing hs ≡ o → checked start hs rest ≡ fields_read start hs rest o
 unfolding checked
 checked_by start hs rest o at = ap (fields_read start hs rest) at
 

@@ -1,6 +1,6 @@
 -- The parameters of an address, one by one.
 use Rattle.sip_text.proofs.Common.{◌≡◌, ℕ, true, false, cond, List, ◌∷◌, Option, Some, sym, ap, ◌∙◌, cond-true, cond-false, QuotesAndAngles, cut, is, pieces_outside_behind, tag_of_params}
-use Rattle.sip_lex.specs.declared.sheltered.Place.TheVariants.{Plain}
+use Rattle.sip_lex.specs.declared.sheltered.ShelterState.TheVariants.{Plain}
 use Rattle.sip_lex.specs.Sheltered.{cut_outside}
 use Rattle.sip_lex.proofs.laws.OutsideSplits.{pieces_outside-cut}
 use Rattle.sip_text.specs.Tag.{is_tag_name, value_of_cut}

@@ -1,9 +1,9 @@
 -- A message whose Content-Length is set to zero.
 use Rattle.sip_text.proofs.Common.{◌≡◌, ℕ, zero, suc, ◌+◌, ◌<◌, ◌++◌, drop, get_or, header_in, headers_in, length-append, start_in, true, false, cond, List, [], ◌∷◌, map, length, Option, Some, None, refl, sym, ap, subst, ◌∙◌, take, arith, list_all, bytes_eq, str_to_ascii_lowercase, and_parts}
-use Rattle.sip_text.proofs.Common.{cond-true, bytes_eq-Decides, BodyLength, Bytes, Wrong, Needed, cseq_fits, missing, said_length, says, IsMessage, fits_body, head_of}
+use Rattle.sip_text.proofs.Common.{cond-true, bytes_eq-Decides, BodyLength, Bytes, Wrong, MandatoryHeader, cseq_fits, missing, said_length, says, IsMessage, fits_body, head_of}
 use Rattle.sip_text.proofs.Common.{is_header, zeroed, same_name, HeaderText, StartText, common_steps, rules}
 use Rattle.std.specs.Prelude.{is_none}
-use Rattle.sip_text.specs.declared.needed.Needed.TheVariants.{Via, From, To, CallId, CSeq}
+use Rattle.sip_text.specs.declared.needed.MandatoryHeader.TheVariants.{Via, From, To, CallId, CSeq}
 use Rattle.sip_text.specs.Fields.{cseq_in, fits_start, length_name, needed_name, said_by}
 use Rattle.sip_text.specs.Message.{IsHead}
 use Rattle.sip_text.specs.Name.{first_of, full_name, values_of}
@@ -13,7 +13,7 @@ use Rattle.std.proofs.lemmas.List.{append-nil}
 use Rattle.std.proofs.Math.Seq.{take-length}
 use Rattle.sip_text.specs.declared.place.LinePlaces.{LinePlaces}
 use Rattle.sip_text.specs.declared.place.StartPlaces.{StartPlaces}
-use Rattle.sip_text.specs.inner.Kept.{AreLinesWithin, IsKept, IsStartWithin, message_in}
+use Rattle.sip_text.specs.inner.Kept.{AreLinesWithin, IsKept, IsStartWithin, placed_message}
 use Rattle.sip_text.proofs.Places.{lines_alike, part_grown, start_grown, start_room}
 
 zeroed_good : (h : HeaderText) → is_header h ≡ true → is_header (zeroed h) ≡ true
@@ -58,17 +58,17 @@ empty_fits hs = ap (λ (vs : List (List ℕ)). fits_body (said_by vs) 0) (values
 abbrev lowered_name : List ℕ → List ℕ
 lowered_name name = str_to_ascii_lowercase (full_name name)
 
-differ : (which : Needed) → bytes_eq (lowered_name (needed_name which)) (lowered_name length_name) ≡ false
+differ : (which : MandatoryHeader) → bytes_eq (lowered_name (needed_name which)) (lowered_name length_name) ≡ false
 unfolding full_name
 differ which = grind arith
 
-apart_from : (which : Needed) (n : List ℕ) → same_name (needed_name which) n ≡ true → same_name length_name n ≡ false
+apart_from : (which : MandatoryHeader) (n : List ℕ) → same_name (needed_name which) n ≡ true → same_name length_name n ≡ false
 apart_from which n same = grind (arith, bytes_eq-Decides, differ)
 
-needed_values : (which : Needed) (hs : List HeaderText) → values_of (needed_name which) (map zeroed hs) ≡ values_of (needed_name which) hs
+needed_values : (which : MandatoryHeader) (hs : List HeaderText) → values_of (needed_name which) (map zeroed hs) ≡ values_of (needed_name which) hs
 needed_values which hs = values_other (needed_name which) hs (apart_from which)
 
-abbrev missing_by : List (List ℕ) → List (List ℕ) → List (List ℕ) → List (List ℕ) → List (List ℕ) → Option Needed
+abbrev missing_by : List (List ℕ) → List (List ℕ) → List (List ℕ) → List (List ℕ) → List (List ℕ) → Option MandatoryHeader
 missing_by via from to call cseq =
     cond (is_none (first_of via)) (Some Via)
     (cond (is_none (first_of from)) (Some From)
@@ -121,11 +121,11 @@ zero_next text all lines n line d zero_line lt same so_far at z =
 
 -- ---- the message without its body
 
-pub zeroed_kept : (text grown : List ℕ) (start : StartPlaces) (lines zeros : List LinePlaces) → IsStartWithin (length text) start → AreLinesWithin (length text) lines → IsHead (start_in text start) (headers_in text lines) → grown ≡ text ++ 48 ∷ [] → headers_in grown zeros ≡ map zeroed (headers_in grown lines) → AreLinesWithin (length grown) zeros → (message_in grown start zeros (record { start = 0; len = 0 }) ≡ head_of (start_in text start) (headers_in text lines)) × IsKept grown start zeros (record { start = 0; len = 0 })
+pub zeroed_kept : (text grown : List ℕ) (start : StartPlaces) (lines zeros : List LinePlaces) → IsStartWithin (length text) start → AreLinesWithin (length text) lines → IsHead (start_in text start) (headers_in text lines) → grown ≡ text ++ 48 ∷ [] → headers_in grown zeros ≡ map zeroed (headers_in grown lines) → AreLinesWithin (length grown) zeros → (placed_message grown start zeros (record { start = 0; len = 0 }) ≡ head_of (start_in text start) (headers_in text lines)) × IsKept grown start zeros (record { start = 0; len = 0 })
 zeroed_kept text grown start lines zeros first all head is z within =
     let first_same : start_in grown start ≡ start_in text start = ap (λ (xs : List ℕ). start_in xs start) is ∙ start_grown text (48 ∷ []) start first in
     let all_same : headers_in grown lines ≡ headers_in text lines = ap (λ (xs : List ℕ). headers_in xs lines) is ∙ lines_alike text (text ++ 48 ∷ []) lines (part_grown text (48 ∷ [])) all in
-    let whole : message_in grown start zeros (record { start = 0; len = 0 }) ≡ head_of (start_in text start) (headers_in text lines) =
+    let whole : placed_message grown start zeros (record { start = 0; len = 0 }) ≡ head_of (start_in text start) (headers_in text lines) =
     (let headers = z ∙ ap (map zeroed) all_same in cc) in
     let size : length grown ≡ length text + 1 = ap length is ∙ length-append text (48 ∷ []) in
     let good : IsMessage (head_of (start_in text start) (headers_in text lines)) = without_body_good (start_in text start) (headers_in text lines) (map zeroed (headers_in text lines)) [] refl refl head in (

@@ -8,28 +8,28 @@ use Rattle.sip_lex.specs.Cut.{cut}
 use Rattle.sip_lex.specs.Number.{number_within}
 use Rattle.sip_text.specs.declared.fields.BodyLength.{BodyLength}
 use Rattle.sip_text.specs.declared.fields.BodyLength.TheVariants.{Unsaid, Bytes, Wrong}
-use Rattle.sip_text.specs.declared.needed.Needed.{Needed}
-use Rattle.sip_text.specs.declared.needed.Needed.TheVariants.{Via, From, To, CallId, CSeq}
+use Rattle.sip_text.specs.declared.needed.MandatoryHeader.{MandatoryHeader}
+use Rattle.sip_text.specs.declared.needed.MandatoryHeader.TheVariants.{Via, From, To, CallId, CSeq}
 use Rattle.sip_text.specs.Name.{first_value, values_of}
 use Rattle.sip_text.specs.Text.{HeaderText, StartText, Request, Response}
 
 -- ---- the five that a message needs
 
-abbrev pub needed_name : Needed → List ℕ
+abbrev pub needed_name : MandatoryHeader → List ℕ
 needed_name Via = codes "via"
 needed_name From = codes "from"
 needed_name To = codes "to"
 needed_name CallId = codes "call-id"
 needed_name CSeq = codes "cseq"
 
-abbrev pub value_of : Needed → List HeaderText → Option (List ℕ)
+abbrev pub value_of : MandatoryHeader → List HeaderText → Option (List ℕ)
 value_of which hs = first_value (needed_name which) hs
 
-abbrev pub is_missing : Needed → List HeaderText → Bool
+abbrev pub is_missing : MandatoryHeader → List HeaderText → Bool
 is_missing which hs = is_none (value_of which hs)
 
 -- the first of them that is missing
-abbrev pub missing : List HeaderText → Option Needed
+abbrev pub missing : List HeaderText → Option MandatoryHeader
 missing hs =
     if is_missing Via hs then Some Via
     else (if is_missing From hs then Some From

@@ -8,7 +8,7 @@ pub use Rattle.sip_lex.specs.Values.{is_line_byte, is_line, is_trimmed, is_value
 use Rattle.sip_text.specs.declared.fields.BodyLength.{BodyLength}
 use Rattle.sip_text.specs.declared.fields.BodyLength.TheVariants.{Unsaid, Bytes, Wrong}
 use Rattle.sip_text.specs.Fields.{cseq_fits, length_name, missing, said_length}
-use Rattle.sip_text.specs.declared.needed.Needed.{Needed}
+use Rattle.sip_text.specs.declared.needed.MandatoryHeader.{MandatoryHeader}
 use Rattle.sip_text.specs.Name.{same_name}
 use Rattle.sip_text.specs.Reading.{Fault, BadStart, BadHeader, Lacks, Short, BadCSeq, BadLength, Headers, headers_at, is_status, is_uri, skip, start_of}
 use Rattle.sip_text.specs.Text.{HeaderText, MessageText, StartText, Request, Response}
@@ -53,7 +53,7 @@ body_at start hs rest Unsaid = Ok (record { start = start; headers = hs; body = 
 body_at start hs rest (Bytes n) = if nat_le n (length rest) then Ok (record { start = start; headers = hs; body = take n rest }) else Err (Short (head_of start hs))
 body_at start hs rest Wrong = Err BadLength
 
-abbrev pub if_present : Option Needed → Result MessageText Fault → Result MessageText Fault
+abbrev pub if_present : Option MandatoryHeader → Result MessageText Fault → Result MessageText Fault
 if_present None read = read
 if_present (Some name) read = Err (Lacks name)
 

@@ -9,14 +9,14 @@ use Rattle.sip_lex.specs.Line.{line_in}
 use Rattle.sip_lex.specs.Pieces.{pieces}
 pub use Rattle.sip_lex.specs.Values.{begins_with_space}
 use Rattle.sip_text.specs.Text.{HeaderText, StartText, Request, Response}
-use Rattle.sip_text.specs.declared.needed.Needed.{Needed}
+use Rattle.sip_text.specs.declared.needed.MandatoryHeader.{MandatoryHeader}
 use Rattle.sip_text.specs.Text.{MessageText}
 
 -- what is wrong with a text
 pub data Fault : Type 0 where
   BadStart : Fault
   BadHeader : Fault
-  Lacks : Needed → Fault
+  Lacks : MandatoryHeader → Fault
   BadVersion : Fault
   BadStatus : Fault
   Short : MessageText → Fault

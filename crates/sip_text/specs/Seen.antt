@@ -6,7 +6,7 @@ use Rattle.sip_text.specs.declared.parts.HeaderLine.{HeaderLine}
 use Rattle.sip_text.specs.declared.parts.StartLine.{StartLine}
 use Rattle.sip_text.specs.declared.parts.StartLine.TheVariants as starts
 use Rattle.sip_text.specs.declared.place.LinePlaces.{LinePlaces}
-use Rattle.sip_text.specs.declared.place.Place.{Place}
+use Rattle.sip_text.specs.declared.place.PartPlace.{PartPlace}
 use Rattle.sip_text.specs.declared.place.StartPlaces.{StartPlaces}
 use Rattle.sip_text.specs.declared.place.StartPlaces.TheVariants as places
 use Rattle.sip_text.specs.Text.{HeaderText, StartText, Request, Response}
@@ -28,7 +28,7 @@ view_cseq c = record { number = c.number; method = c.method.now }
 -- ---- by places in a text
 
 -- the part of a text at a place, as far as the text goes
-abbrev pub part_at : List ℕ → Place → List ℕ
+abbrev pub part_at : List ℕ → PartPlace → List ℕ
 part_at text place = take place.len (drop place.start text)
 
 abbrev pub header_in : List ℕ → LinePlaces → HeaderText

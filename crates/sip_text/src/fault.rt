@@ -4,7 +4,7 @@ ghost use Rattle.std.specs.Prelude.{◌≡◌};
 ghost use Rattle.sip_text.specs.declared.fault.ReadFault.TheVariants.{NoMemory};
 
 use crate::message::Message;
-use crate::needed::Needed;
+use crate::needed::MandatoryHeader;
 use std::alloc::{AllocError, AllocFailed, Allocator};
 use thiserror::Error;
 
@@ -20,7 +20,7 @@ pub enum ReadFault<A: Allocator> {
     HeaderLine,
     /// The first header field that every message has and this one lacks.
     #[error("a header field that every message has is missing")]
-    Missing(Needed),
+    Missing(MandatoryHeader),
     /// The version begins with `SIP/` and isn't `SIP/2.0`.
     #[error("the version is not SIP/2.0")]
     Version,

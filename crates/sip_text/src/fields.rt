@@ -7,16 +7,16 @@ ghost use Rattle.sip_text.specs.Seen.{view_cseq, view_start, views};
 ghost use Rattle.sip_text.specs.inner.Seen.{seen_cseq};
 
 use crate::header_lines::HeaderLines;
-use crate::name::Values;
-use crate::needed::Needed;
+use crate::name::HeaderValues;
+use crate::needed::MandatoryHeader;
 use crate::parts::{CSeqLine, StartLine};
 use sip_lex::{cut_at_space, is_token, read_number, trim_start};
 
 /// The value of the first header of that name.
-pub fn value_of<'a>(which: Needed, headers: HeaderLines<'a>) -> Option<&'a [u8]>
+pub fn value_of<'a>(which: MandatoryHeader, headers: HeaderLines<'a>) -> Option<&'a [u8]>
     ensures { option_copied result ≡ value_of which (views headers.entry) }
 {
-    Values::new(which.name(), headers).next()
+    HeaderValues::new(which.name(), headers).next()
 }
 
 /// What a CSeq value says.
@@ -36,7 +36,7 @@ fn cseq_of(value: &[u8]) -> Option<CSeqLine<'_>>
 pub fn message_cseq(headers: HeaderLines<'_>) -> Option<CSeqLine<'_>>
     ensures { seen_cseq result ≡ message_cseq (views headers.entry) }
 {
-    cseq_of(value_of(Needed::CSeq, headers)?)
+    cseq_of(value_of(MandatoryHeader::CSeq, headers)?)
 }
 
 /// Whether a message that begins so may have that CSeq.

@@ -3,7 +3,7 @@
 ghost use Rattle.std.specs.Prelude.{◌≡◌, ◌∷◌, ◌++◌, List, ℕ, [], if◌then◌else◌, option_map};
 ghost use Rattle.std.specs.Option.{option_copied};
 ghost use Rattle.std.specs.Str.{bytes_eq, str_to_ascii_lowercase};
-ghost use Rattle.sip_text.specs.declared.needed.Needed.{Needed};
+ghost use Rattle.sip_text.specs.declared.needed.MandatoryHeader.{MandatoryHeader};
 ghost use Rattle.sip_text.specs.Fields.{length_name, needed_name};
 ghost use Rattle.sip_text.specs.Name.{same_name};
 ghost use Rattle.sip_text.specs.Text.{HeaderText};
@@ -12,13 +12,13 @@ ghost use Rattle.sip_text.specs.Seen.{header_in, headers_in, part_at};
 
 use crate::fields::{BodyLength, LENGTH_NAME, length_number, says};
 use crate::name::full_name;
-use crate::needed::Needed;
-use crate::place::{LinePlaces, Place, part_at};
+use crate::needed::MandatoryHeader;
+use crate::place::{LinePlaces, PartPlace, part_at};
 
 /// Which of the fields that reading looks at a header line is.
 #[derive(Clone, Copy)]
 pub enum Field {
-    Needed(Needed),
+    Needed(MandatoryHeader),
     Length,
     Other,
 }
@@ -33,20 +33,20 @@ fn is_full_name(name: &[u8], full: &[u8]) -> bool
 
 /// Which field has that name, in any case and in long or compact form.
 fn field_named(name: &[u8]) -> Field
-    ensures needed { (which : Needed) → is_needed which result ≡ same_name (needed_name which) name.now }
+    ensures needed { (which : MandatoryHeader) → is_needed which result ≡ same_name (needed_name which) name.now }
     ensures length { is_length result ≡ same_name length_name name.now }
 {
     let name = full_name(name);
     if is_full_name(name, b"via") {
-        Field::Needed(Needed::Via)
+        Field::Needed(MandatoryHeader::Via)
     } else if is_full_name(name, b"from") {
-        Field::Needed(Needed::From)
+        Field::Needed(MandatoryHeader::From)
     } else if is_full_name(name, b"to") {
-        Field::Needed(Needed::To)
+        Field::Needed(MandatoryHeader::To)
     } else if is_full_name(name, b"call-id") {
-        Field::Needed(Needed::CallId)
+        Field::Needed(MandatoryHeader::CallId)
     } else if is_full_name(name, b"cseq") {
-        Field::Needed(Needed::CSeq)
+        Field::Needed(MandatoryHeader::CSeq)
     } else if is_full_name(name, LENGTH_NAME) {
         Field::Length
     } else {
@@ -57,16 +57,16 @@ fn field_named(name: &[u8]) -> Field
 /// Where the value of the first header line of each needed field stands in a text, and what the Content-Length lines say.
 #[derive(Clone, Copy)]
 pub struct Found {
-    via: Option<Place>,
-    from: Option<Place>,
-    to: Option<Place>,
-    call_id: Option<Place>,
-    cseq: Option<Place>,
+    via: Option<PartPlace>,
+    from: Option<PartPlace>,
+    to: Option<PartPlace>,
+    call_id: Option<PartPlace>,
+    cseq: Option<PartPlace>,
     pub length: BodyLength,
 }
 
 /// The place that was found first.
-fn first(found: Option<Place>, value: Place) -> Option<Place>
+fn first(found: Option<PartPlace>, value: PartPlace) -> Option<PartPlace>
     ensures { (text : List ℕ) → option_map (part_at text) result
         ≡ put_first (option_map (part_at text) found) (part_at text value) }
 {
@@ -112,18 +112,18 @@ impl Found {
     }
 
     /// Adds the place of the value of a needed field, which counts where it is the first.
-    fn add_needed(self, which: Needed, value: Place) -> Found
-        ensures needed { (text : List ℕ) (other : Needed) → got text other result
+    fn add_needed(self, which: MandatoryHeader, value: PartPlace) -> Found
+        ensures needed { (text : List ℕ) (other : MandatoryHeader) → got text other result
             ≡ (if is_same other which then put_first (got text other self) (part_at text value) else got text other self) }
         ensures length { result.length ≡ self.length }
     {
         let mut found = self;
         match which {
-            Needed::Via => found.via = first(found.via, value),
-            Needed::From => found.from = first(found.from, value),
-            Needed::To => found.to = first(found.to, value),
-            Needed::CallId => found.call_id = first(found.call_id, value),
-            Needed::CSeq => found.cseq = first(found.cseq, value),
+            MandatoryHeader::Via => found.via = first(found.via, value),
+            MandatoryHeader::From => found.from = first(found.from, value),
+            MandatoryHeader::To => found.to = first(found.to, value),
+            MandatoryHeader::CallId => found.call_id = first(found.call_id, value),
+            MandatoryHeader::CSeq => found.cseq = first(found.cseq, value),
         }
         found
     }
@@ -145,29 +145,29 @@ impl Found {
 
     /// The value of the first CSeq line in that text.
     pub fn cseq(self, text: &[u8]) -> Option<&[u8]>
-        ensures { option_copied result ≡ got text.now Needed.CSeq self }
+        ensures { option_copied result ≡ got text.now MandatoryHeader.CSeq self }
     {
         Some(part_at(text, self.cseq?))
     }
 
     /// The first needed field that is missing.
-    pub fn missing(&self) -> Option<Needed>
+    pub fn missing(&self) -> Option<MandatoryHeader>
         ensures { (text : List ℕ) → result ≡ missing_of text self.now }
     {
         if self.via.is_none() {
-            return Some(Needed::Via);
+            return Some(MandatoryHeader::Via);
         }
         if self.from.is_none() {
-            return Some(Needed::From);
+            return Some(MandatoryHeader::From);
         }
         if self.to.is_none() {
-            return Some(Needed::To);
+            return Some(MandatoryHeader::To);
         }
         if self.call_id.is_none() {
-            return Some(Needed::CallId);
+            return Some(MandatoryHeader::CallId);
         }
         if self.cseq.is_none() {
-            return Some(Needed::CSeq);
+            return Some(MandatoryHeader::CSeq);
         }
         None
     }

@@ -10,7 +10,7 @@ ghost use Rattle.sip_text.specs.Reading.{begins_with_space, header_of, headers_a
 ghost use Rattle.sip_text.specs.Seen.{header_in, headers_in, part_at};
 
 use crate::fault::ReadFault;
-use crate::place::{LinePlaces, Place, part_at, place_at_end};
+use crate::place::{LinePlaces, PartPlace, part_at, place_at_end};
 use crate::write::append_pieces;
 use sip_lex::{cut_near, first_line, is_space, is_token, trim, trim_end, trim_start};
 use std::alloc::{AllocError, Allocator};
@@ -38,7 +38,7 @@ fn places_of(line: &[u8]) -> Option<LinePlaces>
     let rest = trim_start(raw);
     let value = place_at_end(line, rest, trim_end(rest).len());
     Some(LinePlaces {
-        name: Place {
+        name: PartPlace {
             start: 0,
             len: name.len(),
         },
@@ -63,14 +63,14 @@ fn append_part<A: Allocator>(
 
 /// Where the value that stands at the end of a text, from `start` on, stands without the space at its end; none stands
 /// at its front.
-fn trimmed_place(kept: &[u8], start: usize) -> Place
+fn trimmed_place(kept: &[u8], start: usize) -> PartPlace
     requires start { start ≤ length kept.now }
     requires front { begins_with_space (drop start kept.now) ≡ false }
     ensures value { part_at kept.now result ≡ trim (drop start kept.now) }
     ensures within { IsWithin (length kept.now) result }
 {
     let value = &kept[start..];
-    Place {
+    PartPlace {
         start,
         len: trim_end(value).len(),
     }
@@ -82,7 +82,7 @@ fn with_lines<'a, A: Allocator>(
     kept: &mut Vec<u8, A>,
     value: &[u8],
     text: &'a [u8],
-) -> Result<(Place, &'a [u8]), ReadFault<A>>
+) -> Result<(PartPlace, &'a [u8]), ReadFault<A>>
     requires { begins_with_space value.now ≡ false }
     ensures begins { IfOk result (λ _. take (length kept.old.items) kept.new.items ≡ kept.old.items) }
     ensures ok { IfOk result

@@ -32,8 +32,8 @@ pub use law::{
 };
 pub use message::Message;
 pub use method::Method;
-pub use name::Values;
-pub use needed::Needed;
+pub use name::HeaderValues;
+pub use needed::MandatoryHeader;
 pub use parts::{CSeqLine, HeaderLine, StartLine};
 pub use write::{
     append_pieces, append_request_line, append_status_line, request_line_len, status_line_len,

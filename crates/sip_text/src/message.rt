@@ -4,10 +4,10 @@ use crate::fault::ReadFault;
 use crate::fields::{message_cseq, value_of};
 use crate::header_lines::HeaderLines;
 use crate::method::Method;
-use crate::name::Values;
-use crate::needed::Needed;
+use crate::name::HeaderValues;
+use crate::needed::MandatoryHeader;
 use crate::parts::{CSeqLine, StartLine};
-use crate::place::{LinePlaces, Place, StartPlaces, part_at, start_in};
+use crate::place::{LinePlaces, PartPlace, StartPlaces, part_at, start_in};
 use crate::read::read_all;
 use crate::tag::tag_of;
 use crate::write::append_message;
@@ -22,16 +22,16 @@ pub struct Message<A: Allocator> {
     text: Vec<u8, A>,
     start: StartPlaces,
     lines: Vec<LinePlaces, A>,
-    body: Place,
+    body: PartPlace,
 }
 
 impl<A: Allocator> Model for Message<A> {
     ghost use Rattle.sip_text.specs.Text.{MessageText};
-    ghost use Rattle.sip_text.specs.inner.Kept.{IsKept, message_in};
+    ghost use Rattle.sip_text.specs.inner.Kept.{IsKept, placed_message};
 
     ghost Value = { MessageText };
 
-    ghost view = { λ m. message_in m.text.items m.start m.lines.items m.body };
+    ghost view = { λ m. placed_message m.text.items m.start m.lines.items m.body };
 
     ghost invariant = { λ m. IsKept m.text.items m.start m.lines.items m.body };
 }
@@ -39,11 +39,11 @@ impl<A: Allocator> Model for Message<A> {
 impl<A: Allocator> Message<A> {
     ghost use Rattle.std.specs.Prelude.{◌≡◌, ◌+◌, ◌++◌, ◌≤◌, ◌<◌, IfOk, IsOk, OnOk, OnErr, Some, length, vec_capacity, vec_len};
     ghost use Rattle.std.specs.Option.{option_copied};
-    ghost use Rattle.sip_text.specs.declared.needed.Needed.TheVariants.{CallId, From, To};
+    ghost use Rattle.sip_text.specs.declared.needed.MandatoryHeader.TheVariants.{CallId, From, To};
     ghost use Rattle.sip_text.specs.Change.{with_part_at, with_value_at, without_line_at};
     ghost use Rattle.sip_text.specs.Fields.{message_cseq, value_of};
     ghost use Rattle.sip_text.specs.Message.{IsMessage};
-    ghost use Rattle.sip_text.specs.inner.Kept.{IsKept, message_in};
+    ghost use Rattle.sip_text.specs.inner.Kept.{IsKept, placed_message};
     ghost use Rattle.sip_text.specs.Method.{is_invite, known_method, stands_alone};
     ghost use Rattle.sip_text.specs.Name.{values_of};
     ghost use Rattle.sip_text.specs.Seen.{view_cseq, view_start, views};
@@ -55,10 +55,10 @@ impl<A: Allocator> Message<A> {
         text: Vec<u8, A>,
         start: StartPlaces,
         lines: Vec<LinePlaces, A>,
-        body: Place,
+        body: PartPlace,
     ) -> Message<A>
         requires { IsKept text.items start lines.items body }
-        ensures { result ≡ message_in text.items start lines.items body }
+        ensures { result ≡ placed_message text.items start lines.items body }
     {
         Message {
             text,
@@ -142,10 +142,10 @@ impl<A: Allocator> Message<A> {
 
     /// The values of the header lines of that name, in order, in any case and in long or compact
     /// form. A value that holds several, as between commas, is one.
-    pub fn values<'a, 'n>(&'a self, name: &'n [u8]) -> Values<'a, 'n>
+    pub fn values<'a, 'n>(&'a self, name: &'n [u8]) -> HeaderValues<'a, 'n>
         ensures { result ≡ values_of name.now self.now.headers }
     {
-        Values::new(name, self.headers())
+        HeaderValues::new(name, self.headers())
     }
 
     /// What the first CSeq says (RFC 3261 section 20.16). In a request its method is the request's.
@@ -162,7 +162,7 @@ impl<A: Allocator> Message<A> {
     pub fn call_id(&self) -> &[u8]
         ensures { value_of CallId self.now.headers ≡ Some result.now }
     {
-        match value_of(Needed::CallId, HeaderLines::new(&self.text, &self.lines)) {
+        match value_of(MandatoryHeader::CallId, HeaderLines::new(&self.text, &self.lines)) {
             Some(value) => value,
             None => unreachable!(),
         }
@@ -172,14 +172,14 @@ impl<A: Allocator> Message<A> {
     pub fn from_tag(&self) -> Option<&[u8]>
         ensures { option_copied result ≡ tag_in (value_of From self.now.headers) }
     {
-        tag_of(value_of(Needed::From, self.headers())?)
+        tag_of(value_of(MandatoryHeader::From, self.headers())?)
     }
 
     /// The tag of the first To (RFC 3261 section 20.39), if it has one.
     pub fn to_tag(&self) -> Option<&[u8]>
         ensures { option_copied result ≡ tag_in (value_of To self.now.headers) }
     {
-        tag_of(value_of(Needed::To, self.headers())?)
+        tag_of(value_of(MandatoryHeader::To, self.headers())?)
     }
 
     /// The body.
@@ -204,7 +204,7 @@ impl<A: Allocator> Message<A> {
         let start = self.text.len();
         self.text.extend_from_slice(value)?;
         let line = &mut self.lines[place];
-        line.value = Place {
+        line.value = PartPlace {
             start,
             len: value.len(),
         };

@@ -48,7 +48,7 @@ pub fn same_name(a: &[u8], b: &[u8]) -> bool
 
 /// The value of the first header of that name, and the headers behind it.
 #[tactic(auto, using(crate::proofs::Steps::none_named))]
-fn split_named<'a>(name: &[u8], headers: HeaderLines<'a>) -> Option<(&'a [u8], HeaderLines<'a>)>
+fn split_header<'a>(name: &[u8], headers: HeaderLines<'a>) -> Option<(&'a [u8], HeaderLines<'a>)>
     ensures found { IfSome result
         (λ p. values_of name.now (views headers.entry) ≡ p.0.now ∷ values_of name.now (views p.1)) }
     ensures none { IfNone result (values_of name.now (views headers.entry) ≡ []) }
@@ -65,12 +65,12 @@ fn split_named<'a>(name: &[u8], headers: HeaderLines<'a>) -> Option<(&'a [u8], H
 
 /// The values of the header lines of one name, in order, each line's whole value.
 #[derive(Drop)]
-pub struct Values<'a, 'n> {
+pub struct HeaderValues<'a, 'n> {
     headers: HeaderLines<'a>,
     name: &'n [u8],
 }
 
-impl<'a, 'n> Model for Values<'a, 'n> {
+impl<'a, 'n> Model for HeaderValues<'a, 'n> {
     ghost use Rattle.std.specs.Prelude.{List, ℕ};
     ghost use Rattle.sip_text.specs.Name.{values_of};
     ghost use Rattle.sip_text.specs.Seen.{views};
@@ -80,19 +80,19 @@ impl<'a, 'n> Model for Values<'a, 'n> {
     ghost view = { λ v. values_of v.name.now (views v.headers) };
 }
 
-impl<'a, 'n> Values<'a, 'n> {
+impl<'a, 'n> HeaderValues<'a, 'n> {
     ghost use Rattle.sip_text.specs.Name.{values_of};
     ghost use Rattle.sip_text.specs.Seen.{views};
 
     /// The values of that name.
-    pub fn new(name: &'n [u8], headers: HeaderLines<'a>) -> Values<'a, 'n>
+    pub fn new(name: &'n [u8], headers: HeaderLines<'a>) -> HeaderValues<'a, 'n>
         ensures { result ≡ values_of name.now (views headers.entry) }
     {
-        Values { headers, name }
+        HeaderValues { headers, name }
     }
 }
 
-impl<'a> Iterator for Values<'a, '_> {
+impl<'a> Iterator for HeaderValues<'a, '_> {
     ghost use Rattle.std.specs.Iterator.{YieldsFirstBy, item_count};
 
     type Item = &'a [u8];
@@ -102,7 +102,7 @@ impl<'a> Iterator for Values<'a, '_> {
     ghost remaining = { item_count (λ s. s) };
 
     fn next(&mut self) -> Option<&'a [u8]> {
-        let (value, rest) = split_named(self.name, self.headers)?;
+        let (value, rest) = split_header(self.name, self.headers)?;
         self.headers = rest;
         Some(value)
     }

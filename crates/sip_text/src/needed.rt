@@ -5,7 +5,7 @@ ghost use Rattle.sip_text.specs.Fields.{needed_name};
 
 /// A header field that every message has (RFC 3261 section 8.1.1).
 #[derive(Clone, Copy, Debug, PartialEq, Eq)]
-pub enum Needed {
+pub enum MandatoryHeader {
     Via,
     From,
     To,
@@ -13,17 +13,17 @@ pub enum Needed {
     CSeq,
 }
 
-impl Needed {
+impl MandatoryHeader {
     /// The name of the field, in lower case.
     pub fn name(self) -> &'static [u8]
         ensures { result.now ≡ needed_name self }
     {
         match self {
-            Needed::Via => b"via",
-            Needed::From => b"from",
-            Needed::To => b"to",
-            Needed::CallId => b"call-id",
-            Needed::CSeq => b"cseq",
+            MandatoryHeader::Via => b"via",
+            MandatoryHeader::From => b"from",
+            MandatoryHeader::To => b"to",
+            MandatoryHeader::CallId => b"call-id",
+            MandatoryHeader::CSeq => b"cseq",
         }
     }
 }

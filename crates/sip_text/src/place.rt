@@ -8,31 +8,31 @@ use crate::parts::{HeaderLine, StartLine};
 
 /// Where a part of a text stands in it.
 #[derive(Clone, Copy)]
-pub struct Place {
+pub struct PartPlace {
     pub start: usize,
     pub len: usize,
 }
 
-impl Place {
+impl PartPlace {
     /// The place of what stands at a place in a part of a text that begins so many bytes behind the front of the text.
-    pub fn moved(self, by: usize) -> Place
+    pub fn moved(self, by: usize) -> PartPlace
         requires { IsWithin (2 ^ 64 - 1 - by) self }
         ensures { result ≡ moved by self }
     {
-        Place {
+        PartPlace {
             start: by + self.start,
             len: self.len,
         }
     }
 
     /// Where so many bytes stand from a place in the part on, as far as it goes.
-    pub fn part(self, start: usize, len: usize) -> Place
+    pub fn part(self, start: usize, len: usize) -> PartPlace
         requires { self.start + self.len < 2 ^ 64 }
         ensures within { result.start + result.len ≤ self.start + self.len }
         ensures part { (text : List ℕ) → part_at text result ≡ take len (drop start (part_at text self)) }
     {
         let skipped = start.min(self.len);
-        Place {
+        PartPlace {
             start: self.start + skipped,
             len: len.min(self.len - skipped),
         }
@@ -40,7 +40,7 @@ impl Place {
 }
 
 /// The part of a text at a place, as far as the text goes.
-pub fn part_at(text: &[u8], place: Place) -> &[u8]
+pub fn part_at(text: &[u8], place: PartPlace) -> &[u8]
     ensures { result.now ≡ part_at text.now place }
 {
     if text.len() <= place.start {
@@ -54,13 +54,13 @@ pub fn part_at(text: &[u8], place: Place) -> &[u8]
 }
 
 /// Where so many bytes stand in a text at the front of what it ends with.
-pub fn place_at_end(text: &[u8], end: &[u8], len: usize) -> Place
+pub fn place_at_end(text: &[u8], end: &[u8], len: usize) -> PartPlace
     requires end { IsEnd text.now end.now }
     requires len { len ≤ length end.now }
     ensures part { part_at text.now result ≡ take len end.now }
     ensures within { IsWithin (length text.now) result }
 {
-    Place {
+    PartPlace {
         start: text.len() - end.len(),
         len,
     }
@@ -69,8 +69,8 @@ pub fn place_at_end(text: &[u8], end: &[u8], len: usize) -> Place
 /// Where the name and the value of a header line stand in the text of its message.
 #[derive(Clone, Copy)]
 pub struct LinePlaces {
-    pub name: Place,
-    pub value: Place,
+    pub name: PartPlace,
+    pub value: PartPlace,
 }
 
 impl LinePlaces {
@@ -99,8 +99,8 @@ pub fn header_in(text: &[u8], places: LinePlaces) -> HeaderLine<'_>
 /// Where the parts of a start line stand in the text of its message.
 #[derive(Clone, Copy)]
 pub enum StartPlaces {
-    Request { method: Place, uri: Place },
-    Response { status: u16, reason: Place },
+    Request { method: PartPlace, uri: PartPlace },
+    Response { status: u16, reason: PartPlace },
 }
 
 impl StartPlaces {

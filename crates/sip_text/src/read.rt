@@ -13,13 +13,13 @@ use crate::found::found_in;
 use crate::head::headers_of;
 use crate::message::Message;
 use crate::name::same_name;
-use crate::place::{LinePlaces, Place, StartPlaces, part_at, place_at_end, start_in};
+use crate::place::{LinePlaces, PartPlace, StartPlaces, part_at, place_at_end, start_in};
 use crate::start::{skip, start_of};
 use sip_lex::first_line;
 use std::alloc::{AllocError, Allocator};
 
 /// A header line whose value is the one at a place, which is `0`, where it is a Content-Length.
-fn zeroed(text: &[u8], line: LinePlaces, zero: Place) -> LinePlaces
+fn zeroed(text: &[u8], line: LinePlaces, zero: PartPlace) -> LinePlaces
     requires zero { part_at text.now zero ≡ 48 ∷ [] }
     requires zero_within { IsWithin (length text.now) zero }
     requires within { IsLineWithin (length text.now) line }
@@ -37,7 +37,7 @@ fn zeroed(text: &[u8], line: LinePlaces, zero: Place) -> LinePlaces
 }
 
 /// Sets the value of each Content-Length to the one at a place, which is `0`.
-fn zero_all(text: &[u8], lines: &mut [LinePlaces], zero: Place)
+fn zero_all(text: &[u8], lines: &mut [LinePlaces], zero: PartPlace)
     requires zero { part_at text.now zero ≡ 48 ∷ [] }
     requires zero_within { IsWithin (length text.now) zero }
     requires within { AreLinesWithin (length text.now) lines.old }
@@ -60,13 +60,13 @@ fn without_body<A: Allocator>(
     requires head { IsHead (start_in text.items start) (headers_in text.items lines.items) }
     ensures { IfOk result (λ m. m ≡ head_of (start_in text.items start) (headers_in text.items lines.items)) }
 {
-    let zero = Place {
+    let zero = PartPlace {
         start: text.len(),
         len: 1,
     };
     text.extend_from_slice(b"0")?;
     zero_all(&text, &mut lines, zero);
-    let body = Place { start: 0, len: 0 };
+    let body = PartPlace { start: 0, len: 0 };
     Ok(Message::of_places(text, start, lines, body))
 }
 
@@ -76,7 +76,7 @@ fn said_body<A: Allocator>(
     text: Vec<u8, A>,
     start: StartPlaces,
     lines: Vec<LinePlaces, A>,
-    rest: Place,
+    rest: PartPlace,
     n: usize,
 ) -> Result<Message<A>, ReadFault<A>>
     requires start { IsStartWithin (length text.items) start }
@@ -90,7 +90,7 @@ fn said_body<A: Allocator>(
     if rest.len < n {
         return Err(ReadFault::ShortBody(without_body(text, start, lines)?));
     }
-    let body = Place {
+    let body = PartPlace {
         start: rest.start,
         len: n,
     };
@@ -103,7 +103,7 @@ fn body_of<A: Allocator>(
     text: Vec<u8, A>,
     start: StartPlaces,
     lines: Vec<LinePlaces, A>,
-    rest: Place,
+    rest: PartPlace,
     said: BodyLength,
 ) -> Result<Message<A>, ReadFault<A>>
     requires start { IsStartWithin (length text.items) start }

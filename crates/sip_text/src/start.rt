@@ -10,7 +10,7 @@ ghost use Rattle.sip_text.specs.inner.Kept.{IsAt, IsEnd, IsStartWithin};
 ghost use Rattle.sip_text.specs.Seen.{start_in};
 
 use crate::fault::ReadFault;
-use crate::place::{Place, StartPlaces, place_at_end};
+use crate::place::{PartPlace, StartPlaces, place_at_end};
 use sip_lex::{cut_at_space, is_space, is_token};
 use std::alloc::Allocator;
 
@@ -46,7 +46,7 @@ fn is_uri(bytes: &[u8]) -> bool
 }
 
 /// Where the parts of a status line stand in it; `rest` is what stands behind its version.
-fn status_of<A: Allocator>(line: &[u8], rest: &[u8]) -> Result<StartPlaces, ReadFault<A>>
+fn status_at<A: Allocator>(line: &[u8], rest: &[u8]) -> Result<StartPlaces, ReadFault<A>>
     requires { IsEnd line.now rest.now }
     ensures value { Gives (start_in line.now) result (status_of rest.now) }
     ensures within { IfOk result (λ places. IsStartWithin (length line.now) places) }
@@ -76,7 +76,7 @@ fn response_of<A: Allocator>(line: &[u8]) -> Result<StartPlaces, ReadFault<A>>
     }
     match rest {
         None => Err(ReadFault::StartLine),
-        Some(rest) => status_of(line, rest),
+        Some(rest) => status_at(line, rest),
     }
 }
 
@@ -105,7 +105,7 @@ fn after_uri<A: Allocator>(
     if !(is_token(method) && is_uri(uri)) {
         return Err(ReadFault::StartLine);
     }
-    let method = Place {
+    let method = PartPlace {
         start: 0,
         len: method.len(),
     };

@@ -17,11 +17,11 @@ pub use Rattle.sip_txn.specs.declared.invite_server.InviteServerState.{InviteSer
 pub use Rattle.sip_txn.specs.declared.machine.Machine.{Machine}
 pub use Rattle.sip_txn.specs.declared.other_client.OtherClientState.{OtherClientState}
 pub use Rattle.sip_txn.specs.declared.other_server.OtherServerState.{OtherServerState}
-pub use Rattle.sip_txn.specs.declared.timers.Clock.TheVariants.{Again}
+pub use Rattle.sip_txn.specs.declared.timers.TimerChange.TheVariants.{Again}
 pub use Rattle.sip_txn.specs.declared.timers.Growth.{Growth}
 pub use Rattle.sip_txn.specs.declared.timers.Growth.TheVariants.{Doubled, DoubledUpToT2, SetToT2}
-pub use Rattle.sip_txn.specs.declared.timers.Input.{Input}
-pub use Rattle.sip_txn.specs.declared.timers.Input.TheVariants.{EndDue, Event, RepeatDue}
+pub use Rattle.sip_txn.specs.declared.timers.MachineInput.{MachineInput}
+pub use Rattle.sip_txn.specs.declared.timers.MachineInput.TheVariants.{EndDue, Event, RepeatDue}
 pub use Rattle.sip_txn.specs.declared.timers.Repeat.{Repeat}
 pub use Rattle.sip_txn.specs.declared.timers.TheConstants.{T1_TIMES_64, T2, T4}
 pub use Rattle.sip_txn.specs.declared.timers.Timers.{Timers}

@@ -1,5 +1,5 @@
 -- Laws of the table of InviteClient: its rows keep which timers run, and what becomes of it over whole runs.
-use Rattle.sip_txn.proofs.Common.{◌≡◌, ℕ, None, ap, sym, subst, Reliability, Unreliable, Reliable, ◌+◌, ◌≤◌, cond, List, [], ◌∷◌, Option, refl, arith, lit≤, Repeat, Timers, Doubled, Input, Event, TxEvent, Machine, InviteClientState, Terminated, no_timers, waits, input_of, silent, sends, passes, row_machine, row_out}
+use Rattle.sip_txn.proofs.Common.{◌≡◌, ℕ, None, ap, sym, subst, Reliability, Unreliable, Reliable, ◌+◌, ◌≤◌, cond, List, [], ◌∷◌, Option, refl, arith, lit≤, Repeat, Timers, Doubled, MachineInput, Event, TxEvent, Machine, InviteClientState, Terminated, no_timers, waits, input_of, silent, sends, passes, row_machine, row_out}
 use Rattle.sip_txn.proofs.Common.{machine_after, out_of, answers, Answer, IsOver, invite_client, RunsTimersOf, RunsOutByTicks}
 use Rattle.sip_txn.specs.declared.event.TxEvent.TheVariants as event
 use Rattle.sip_txn.specs.declared.event.TxSend.TheVariants as send
@@ -19,14 +19,14 @@ abbrev pub at_rest : Reliability → InviteClientState → Timers → Machine In
 at_rest t s timers = record { state = s; timers = timers; reliability = t }
 
 -- the machine after the row of an input
-abbrev pub followed : Reliability → InviteClientState → Input → ℕ → Timers → Machine InviteClientState
+abbrev pub followed : Reliability → InviteClientState → MachineInput → ℕ → Timers → Machine InviteClientState
 followed t s i now timers = row_machine (invite_client s i) now (at_rest t s timers)
 
 -- A row keeps which timers run in the states.
-pub keeps : (t : Reliability) (s : InviteClientState) (i : Input) (now : ℕ) (timers : Timers) → RunsTimersOf t s timers → RunsTimersOf t (followed t s i now timers).state (followed t s i now timers).timers
+pub keeps : (t : Reliability) (s : InviteClientState) (i : MachineInput) (now : ℕ) (timers : Timers) → RunsTimersOf t s timers → RunsTimersOf t (followed t s i now timers).state (followed t s i now timers).timers
 keeps t s i now timers h = grind arith
 
-pub keeps_all : (t : Reliability) (s : InviteClientState) (i : Input) (now : ℕ) (timers : Timers) → RunsTimersOf t s timers
+pub keeps_all : (t : Reliability) (s : InviteClientState) (i : MachineInput) (now : ℕ) (timers : Timers) → RunsTimersOf t s timers
     → RunsTimersOf (followed t s i now timers).reliability (followed t s i now timers).state (followed t s i now timers).timers
 keeps_all t s i now timers h = grind (arith, keeps t s i now timers h)
 
@@ -95,7 +95,7 @@ credit Calling = 1
 credit Proceeding = 1
 credit _ = 0
 
-tick_uses : (t : Reliability) (s : InviteClientState) (i : Input) (now : ℕ) (timers : Timers) → cond (ends event.Tick (row_out (invite_client s i)).pass) 1 0 + credit (followed t s i now timers).state ≤ credit s
+tick_uses : (t : Reliability) (s : InviteClientState) (i : MachineInput) (now : ℕ) (timers : Timers) → cond (ends event.Tick (row_out (invite_client s i)).pass) 1 0 + credit (followed t s i now timers).state ≤ credit s
 tick_uses t s i now timers = grind arith
 
 event_uses : (t : Reliability) (s : InviteClientState) (event : TxEvent) (now : ℕ) (timers : Timers) → cond (ends event (row_out (invite_client s (Event event))).pass) 1 0 + credit (followed t s (Event event) now timers).state ≤ credit s

@@ -1,5 +1,5 @@
 -- Laws of the table of InviteServer: its rows keep which timers run, and what becomes of it over whole runs.
-use Rattle.sip_txn.proofs.Common.{◌≡◌, ℕ, Reliability, Unreliable, Reliable, ◌+◌, ◌≤◌, cond, Option, refl, arith, lit≤, Repeat, Timers, DoubledUpToT2, Input, Event, TxEvent, Machine, InviteServerState, no_timers, silent, sends, passes, row_machine, row_out, machine_after, out_of}
+use Rattle.sip_txn.proofs.Common.{◌≡◌, ℕ, Reliability, Unreliable, Reliable, ◌+◌, ◌≤◌, cond, Option, refl, arith, lit≤, Repeat, Timers, DoubledUpToT2, MachineInput, Event, TxEvent, Machine, InviteServerState, no_timers, silent, sends, passes, row_machine, row_out, machine_after, out_of}
 use Rattle.sip_txn.proofs.Common.{IsOver, invite_server}
 use Rattle.sip_txn.specs.declared.event.TxSend.TheVariants as send
 use Rattle.sip_txn.specs.declared.event.TxPass.TheVariants as pass
@@ -14,14 +14,14 @@ abbrev pub at_rest : Reliability → InviteServerState → Timers → Machine In
 at_rest t s timers = record { state = s; timers = timers; reliability = t }
 
 -- the machine after the row of an input
-abbrev pub followed : Reliability → InviteServerState → Input → ℕ → Timers → Machine InviteServerState
+abbrev pub followed : Reliability → InviteServerState → MachineInput → ℕ → Timers → Machine InviteServerState
 followed t s i now timers = row_machine (invite_server s i) now (at_rest t s timers)
 
 -- A row keeps which timers run in the states.
-pub keeps : (t : Reliability) (s : InviteServerState) (i : Input) (now : ℕ) (timers : Timers) → RunsTimersOf t s timers → RunsTimersOf t (followed t s i now timers).state (followed t s i now timers).timers
+pub keeps : (t : Reliability) (s : InviteServerState) (i : MachineInput) (now : ℕ) (timers : Timers) → RunsTimersOf t s timers → RunsTimersOf t (followed t s i now timers).state (followed t s i now timers).timers
 keeps t s i now timers h = grind arith
 
-pub keeps_all : (t : Reliability) (s : InviteServerState) (i : Input) (now : ℕ) (timers : Timers) → RunsTimersOf t s timers
+pub keeps_all : (t : Reliability) (s : InviteServerState) (i : MachineInput) (now : ℕ) (timers : Timers) → RunsTimersOf t s timers
     → RunsTimersOf (followed t s i now timers).reliability (followed t s i now timers).state (followed t s i now timers).timers
 keeps_all t s i now timers h = grind (arith, keeps t s i now timers h)
 
@@ -63,7 +63,7 @@ credit Proceeding = 1
 credit Completed = 1
 credit _ = 0
 
-tick_uses : (t : Reliability) (s : InviteServerState) (i : Input) (now : ℕ) (timers : Timers) → cond (ends (row_out (invite_server s i)).pass) 1 0 + credit (followed t s i now timers).state ≤ credit s
+tick_uses : (t : Reliability) (s : InviteServerState) (i : MachineInput) (now : ℕ) (timers : Timers) → cond (ends (row_out (invite_server s i)).pass) 1 0 + credit (followed t s i now timers).state ≤ credit s
 tick_uses t s i now timers = grind arith
 
 event_uses : (t : Reliability) (s : InviteServerState) (event : TxEvent) (now : ℕ) (timers : Timers) → cond (ends (row_out (invite_server s (Event event))).pass) 1 0 + credit (followed t s (Event event) now timers).state ≤ credit s

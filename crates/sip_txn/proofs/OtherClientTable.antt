@@ -1,5 +1,5 @@
 -- Laws of the table of OtherClient: its rows keep which timers run, and what becomes of it over whole runs.
-use Rattle.sip_txn.proofs.Common.{◌≡◌, ℕ, None, ap, sym, subst, Reliability, Unreliable, Reliable, ◌+◌, ◌≤◌, ◌<◌, cond, List, [], ◌∷◌, Option, Some, refl, arith, lit≤, T1_TIMES_64, Repeat, Timers, DoubledUpToT2, SetToT2, Input, Event, TxEvent, Machine, OtherClientState, later, no_timers, repeats_and_ends, waits, input_of}
+use Rattle.sip_txn.proofs.Common.{◌≡◌, ℕ, None, ap, sym, subst, Reliability, Unreliable, Reliable, ◌+◌, ◌≤◌, ◌<◌, cond, List, [], ◌∷◌, Option, Some, refl, arith, lit≤, T1_TIMES_64, Repeat, Timers, DoubledUpToT2, SetToT2, MachineInput, Event, TxEvent, Machine, OtherClientState, later, no_timers, repeats_and_ends, waits, input_of}
 use Rattle.sip_txn.proofs.Common.{silent, sends, passes, row_machine, row_out, machine_after, out_of, answers, Answer, IsOver, other_client}
 use Rattle.sip_txn.specs.declared.timers.TheConstants.{T1}
 use Rattle.sip_txn.specs.declared.event.TxEvent.TheVariants as event
@@ -21,14 +21,14 @@ abbrev pub at_rest : Reliability → OtherClientState → Timers → Machine Oth
 at_rest t s timers = record { state = s; timers = timers; reliability = t }
 
 -- the machine after the row of an input
-abbrev pub followed : Reliability → OtherClientState → Input → ℕ → Timers → Machine OtherClientState
+abbrev pub followed : Reliability → OtherClientState → MachineInput → ℕ → Timers → Machine OtherClientState
 followed t s i now timers = row_machine (other_client s i) now (at_rest t s timers)
 
 -- A row keeps which timers run in the states.
-pub keeps : (t : Reliability) (s : OtherClientState) (i : Input) (now : ℕ) (timers : Timers) → RunsTimersOf t s timers → RunsTimersOf t (followed t s i now timers).state (followed t s i now timers).timers
+pub keeps : (t : Reliability) (s : OtherClientState) (i : MachineInput) (now : ℕ) (timers : Timers) → RunsTimersOf t s timers → RunsTimersOf t (followed t s i now timers).state (followed t s i now timers).timers
 keeps t s i now timers h = grind arith
 
-pub keeps_all : (t : Reliability) (s : OtherClientState) (i : Input) (now : ℕ) (timers : Timers) → RunsTimersOf t s timers
+pub keeps_all : (t : Reliability) (s : OtherClientState) (i : MachineInput) (now : ℕ) (timers : Timers) → RunsTimersOf t s timers
     → RunsTimersOf (followed t s i now timers).reliability (followed t s i now timers).state (followed t s i now timers).timers
 keeps_all t s i now timers h = grind (arith, keeps t s i now timers h)
 
@@ -118,7 +118,7 @@ credit Trying = 1
 credit Proceeding = 1
 credit _ = 0
 
-tick_uses : (t : Reliability) (s : OtherClientState) (i : Input) (now : ℕ) (timers : Timers) → cond (ends event.Tick (row_out (other_client s i)).pass) 1 0 + credit (followed t s i now timers).state ≤ credit s
+tick_uses : (t : Reliability) (s : OtherClientState) (i : MachineInput) (now : ℕ) (timers : Timers) → cond (ends event.Tick (row_out (other_client s i)).pass) 1 0 + credit (followed t s i now timers).state ≤ credit s
 tick_uses t s i now timers = grind arith
 
 event_uses : (t : Reliability) (s : OtherClientState) (event : TxEvent) (now : ℕ) (timers : Timers) → cond (ends event (row_out (other_client s (Event event))).pass) 1 0 + credit (followed t s (Event event) now timers).state ≤ credit s

@@ -1,5 +1,5 @@
 -- Laws of the table of OtherServer: its rows keep which timers run, and what becomes of it over whole runs.
-use Rattle.sip_txn.proofs.Common.{◌≡◌, ℕ, Reliability, Unreliable, Reliable, ◌+◌, ◌≤◌, cond, Option, arith, Repeat, Timers, Input, Event, TxEvent, Machine, OtherServerState, no_timers, silent, row_machine, row_out, machine_after, out_of, IsOver, other_server}
+use Rattle.sip_txn.proofs.Common.{◌≡◌, ℕ, Reliability, Unreliable, Reliable, ◌+◌, ◌≤◌, cond, Option, arith, Repeat, Timers, MachineInput, Event, TxEvent, Machine, OtherServerState, no_timers, silent, row_machine, row_out, machine_after, out_of, IsOver, other_server}
 use Rattle.sip_txn.specs.declared.other_server.OtherServerState.TheVariants.{Trying, Proceeding, Completed, Terminated}
 use Rattle.sip_txn.specs.OtherServer.{RunsTimersOf, ends, HandsUpOneEnd, RunsOutByTicks}
 use Rattle.sip_txn.proofs.Lists.{count_by-answers, machine_after_all-same, answers-silent}
@@ -9,14 +9,14 @@ abbrev pub at_rest : Reliability → OtherServerState → Timers → Machine Oth
 at_rest t s timers = record { state = s; timers = timers; reliability = t }
 
 -- the machine after the row of an input
-abbrev pub followed : Reliability → OtherServerState → Input → ℕ → Timers → Machine OtherServerState
+abbrev pub followed : Reliability → OtherServerState → MachineInput → ℕ → Timers → Machine OtherServerState
 followed t s i now timers = row_machine (other_server s i) now (at_rest t s timers)
 
 -- A row keeps which timers run in the states.
-pub keeps : (t : Reliability) (s : OtherServerState) (i : Input) (now : ℕ) (timers : Timers) → RunsTimersOf t s timers → RunsTimersOf t (followed t s i now timers).state (followed t s i now timers).timers
+pub keeps : (t : Reliability) (s : OtherServerState) (i : MachineInput) (now : ℕ) (timers : Timers) → RunsTimersOf t s timers → RunsTimersOf t (followed t s i now timers).state (followed t s i now timers).timers
 keeps t s i now timers h = grind arith
 
-pub keeps_all : (t : Reliability) (s : OtherServerState) (i : Input) (now : ℕ) (timers : Timers) → RunsTimersOf t s timers
+pub keeps_all : (t : Reliability) (s : OtherServerState) (i : MachineInput) (now : ℕ) (timers : Timers) → RunsTimersOf t s timers
     → RunsTimersOf (followed t s i now timers).reliability (followed t s i now timers).state (followed t s i now timers).timers
 keeps_all t s i now timers h = grind (arith, keeps t s i now timers h)
 
@@ -46,7 +46,7 @@ credit Proceeding = 1
 credit Completed = 1
 credit _ = 0
 
-tick_uses : (t : Reliability) (s : OtherServerState) (i : Input) (now : ℕ) (timers : Timers) → cond (ends (row_out (other_server s i)).pass) 1 0 + credit (followed t s i now timers).state ≤ credit s
+tick_uses : (t : Reliability) (s : OtherServerState) (i : MachineInput) (now : ℕ) (timers : Timers) → cond (ends (row_out (other_server s i)).pass) 1 0 + credit (followed t s i now timers).state ≤ credit s
 tick_uses t s i now timers = grind arith
 
 event_uses : (t : Reliability) (s : OtherServerState) (event : TxEvent) (now : ℕ) (timers : Timers) → cond (ends (row_out (other_server s (Event event))).pass) 1 0 + credit (followed t s (Event event) now timers).state ≤ credit s

@@ -5,7 +5,7 @@ use Rattle.std.proofs.Common.{◌++◌, inl, inr, Bool, true, false}
 use Rattle.std.proofs.lemmas.Bool.{false≢true}
 use Rattle.std.proofs.lemmas.Bool.Decides.{leb_tells}
 use Rattle.sip_txn.specs.declared.event.TxOut.{TxOut}
-use Rattle.sip_txn.specs.declared.timers.Clock.TheVariants.{StopAll}
+use Rattle.sip_txn.specs.declared.timers.TimerChange.TheVariants.{StopAll}
 use Rattle.sip_txn.specs.Machine.{goes_to}
 use Rattle.sip_txn.specs.Runs.{ticks, each, TicksBring, RunsOut, RetransmitsAndRunsOut, WaitsOut, RetransmitsAt, if_unreliable}
 use Rattle.sip_txn.proofs.Moments.{nth, nth_passes, none_before, offset, offsets, started, nth-started, moments-started}

@@ -5,8 +5,8 @@ use Rattle.sip_txn.specs.declared.timers.Timers.{Timers}
 use Rattle.sip_txn.specs.declared.timers.Reliability.{Reliability}
 use Rattle.sip_txn.specs.declared.timers.Reliability.TheVariants.{Reliable}
 use Rattle.sip_txn.specs.declared.timers.Growth.TheVariants.{Doubled}
-use Rattle.sip_txn.specs.declared.timers.Clock.TheVariants.{Keep, StopAll, EndIn, Linger, Again}
-use Rattle.sip_txn.specs.declared.timers.Input.TheVariants.{Event, EndDue, RepeatDue}
+use Rattle.sip_txn.specs.declared.timers.TimerChange.TheVariants.{Keep, StopAll, EndIn, Linger, Again}
+use Rattle.sip_txn.specs.declared.timers.MachineInput.TheVariants.{Event, EndDue, RepeatDue}
 use Rattle.sip_txn.specs.declared.event.TxEvent.{TxEvent}
 use Rattle.sip_txn.specs.declared.event.TxEvent.TheVariants as event
 use Rattle.sip_txn.specs.declared.event.TxSend.TheVariants as send

@@ -4,8 +4,8 @@ use Rattle.sip_txn.specs.declared.timers.TheConstants.{T1_TIMES_64, T2, T4}
 use Rattle.sip_txn.specs.declared.timers.Timers.{Timers}
 use Rattle.sip_txn.specs.declared.timers.Reliability.{Reliability}
 use Rattle.sip_txn.specs.declared.timers.Growth.TheVariants.{DoubledUpToT2}
-use Rattle.sip_txn.specs.declared.timers.Clock.TheVariants.{Keep, StopAll, EndIn, Linger, RepeatAndEnd, Again}
-use Rattle.sip_txn.specs.declared.timers.Input.TheVariants.{Event, EndDue, RepeatDue}
+use Rattle.sip_txn.specs.declared.timers.TimerChange.TheVariants.{Keep, StopAll, EndIn, Linger, RepeatAndEnd, Again}
+use Rattle.sip_txn.specs.declared.timers.MachineInput.TheVariants.{Event, EndDue, RepeatDue}
 use Rattle.sip_txn.specs.declared.event.TxEvent.TheVariants as event
 use Rattle.sip_txn.specs.declared.event.TxSend.TheVariants as send
 use Rattle.sip_txn.specs.declared.event.TxPass.{TxPass}

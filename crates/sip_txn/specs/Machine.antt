@@ -6,9 +6,9 @@ use Rattle.sip_txn.specs.declared.event.TxSend.{TxSend}
 use Rattle.sip_txn.specs.declared.event.TxSend.TheVariants as send
 use Rattle.sip_txn.specs.declared.event.TxPass.{TxPass}
 use Rattle.sip_txn.specs.declared.event.TxPass.TheVariants as pass
-use Rattle.sip_txn.specs.declared.timers.Clock.{Clock}
-use Rattle.sip_txn.specs.declared.timers.Input.{Input}
-use Rattle.sip_txn.specs.declared.machine.Row.{Row}
+use Rattle.sip_txn.specs.declared.timers.TimerChange.{TimerChange}
+use Rattle.sip_txn.specs.declared.timers.MachineInput.{MachineInput}
+use Rattle.sip_txn.specs.declared.machine.MachineRow.{MachineRow}
 use Rattle.sip_txn.specs.declared.machine.Machine.{Machine}
 use Rattle.sip_txn.specs.Timers.{input_of, run_clock}
 
@@ -27,17 +27,17 @@ passes what = record { send = send.Nothing; pass = what }
 
 -- A table has at most one row for a state and an input; what it does not list changes nothing.
 abbrev pub Table : Type 0 → Type 0
-Table S = S → Input → Option (Row S)
+Table S = S → MachineInput → Option (MachineRow S)
 
 -- to this state, with this done to the timers, and this sent and passed
-abbrev pub goes_to : {S : Type 0} → S → Clock → TxOut → Option (Row S)
+abbrev pub goes_to : {S : Type 0} → S → TimerChange → TxOut → Option (MachineRow S)
 goes_to next clock out = Some (record { next = next; clock = clock; out = out })
 
-abbrev pub row_machine : {S : Type 0} → Option (Row S) → ℕ → Machine S → Machine S
+abbrev pub row_machine : {S : Type 0} → Option (MachineRow S) → ℕ → Machine S → Machine S
 row_machine None now m = m
 row_machine (Some r) now m = record { state = r.next; timers = run_clock m.reliability r.clock now m.timers; reliability = m.reliability }
 
-abbrev pub row_out : {S : Type 0} → Option (Row S) → TxOut
+abbrev pub row_out : {S : Type 0} → Option (MachineRow S) → TxOut
 row_out None = silent
 row_out (Some r) = r.out
 

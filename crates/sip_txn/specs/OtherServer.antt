@@ -3,8 +3,8 @@ use Rattle.std.specs.Prelude.{◌≡◌, Bool, true, false, None}
 use Rattle.sip_txn.specs.declared.timers.TheConstants.{T1_TIMES_64}
 use Rattle.sip_txn.specs.declared.timers.Timers.{Timers}
 use Rattle.sip_txn.specs.declared.timers.Reliability.{Reliability}
-use Rattle.sip_txn.specs.declared.timers.Clock.TheVariants.{Keep, StopAll, Linger}
-use Rattle.sip_txn.specs.declared.timers.Input.TheVariants.{Event, EndDue}
+use Rattle.sip_txn.specs.declared.timers.TimerChange.TheVariants.{Keep, StopAll, Linger}
+use Rattle.sip_txn.specs.declared.timers.MachineInput.TheVariants.{Event, EndDue}
 use Rattle.sip_txn.specs.declared.event.TxEvent.TheVariants as event
 use Rattle.sip_txn.specs.declared.event.TxSend.TheVariants as send
 use Rattle.sip_txn.specs.declared.event.TxPass.{TxPass}

@@ -10,10 +10,10 @@ use Rattle.sip_txn.specs.declared.timers.Reliability.{Reliability}
 use Rattle.sip_txn.specs.declared.timers.Reliability.TheVariants.{Unreliable, Reliable}
 use Rattle.sip_txn.specs.declared.timers.Growth.{Growth}
 use Rattle.sip_txn.specs.declared.timers.Growth.TheVariants.{Doubled, DoubledUpToT2, SetToT2}
-use Rattle.sip_txn.specs.declared.timers.Clock.{Clock}
-use Rattle.sip_txn.specs.declared.timers.Clock.TheVariants.{Keep, StopAll, EndIn, Linger, RepeatAndEnd, Again}
-use Rattle.sip_txn.specs.declared.timers.Input.{Input}
-use Rattle.sip_txn.specs.declared.timers.Input.TheVariants.{Event, EndDue, RepeatDue, NothingDue}
+use Rattle.sip_txn.specs.declared.timers.TimerChange.{TimerChange}
+use Rattle.sip_txn.specs.declared.timers.TimerChange.TheVariants.{Keep, StopAll, EndIn, Linger, RepeatAndEnd, Again}
+use Rattle.sip_txn.specs.declared.timers.MachineInput.{MachineInput}
+use Rattle.sip_txn.specs.declared.timers.MachineInput.TheVariants.{Event, EndDue, RepeatDue, NothingDue}
 
 -- the greatest moment
 abbrev pub last_moment : ℕ
@@ -58,7 +58,7 @@ abbrev pub set_again : Growth → ℕ → Repeat → Repeat
 set_again growth now r = record { at = later now (grown_to growth r.interval); interval = grown_to growth r.interval }
 
 -- what a row does to the timers
-abbrev pub run_clock : Reliability → Clock → ℕ → Timers → Timers
+abbrev pub run_clock : Reliability → TimerChange → ℕ → Timers → Timers
 run_clock reliability Keep now timers = timers
 run_clock reliability StopAll now timers = no_timers
 run_clock reliability (EndIn interval) now timers = ends_after interval now
@@ -86,7 +86,7 @@ is_due now None = false
 is_due now (Some at) = nat_le at now
 
 -- A tick is for a timer that is due, and first for the one that ends the state.
-abbrev pub input_of : TxEvent → ℕ → Timers → Input
+abbrev pub input_of : TxEvent → ℕ → Timers → MachineInput
 input_of Tick now timers = if is_due now timers.end then EndDue else (if is_due now (moment_of timers.repeat) then RepeatDue else NothingDue)
 input_of event now timers = Event event
 

@@ -1,8 +1,8 @@
 //! The client transaction of an INVITE (RFC 3261 section 17.1.1, with RFC 6026 section 7.2).
 
 use crate::event::{TxEvent, TxOut, TxPass, TxSend};
-use crate::machine::{Machine, Row, goes_to};
-use crate::timers::{Clock, Growth, Input, Reliability, T1_TIMES_64, TIMER_D, Timers};
+use crate::machine::{Machine, MachineRow, goes_to};
+use crate::timers::{Growth, MachineInput, Reliability, T1_TIMES_64, TIMER_D, TimerChange, Timers};
 use std::marker::Model;
 
 /// The states of RFC 3261 figure 5, with Accepted of RFC 6026.
@@ -94,11 +94,11 @@ ghost use Rattle.std.specs.Prelude.{◌≡◌};
 ghost use Rattle.sip_txn.specs.InviteClient.{invite_client};
 
 /// The table's row for a state and an input (RFC 3261 section 17.1.1.2, with RFC 6026 section 7.2).
-fn listed(state: InviteClientState, input: Input) -> Option<Row<InviteClientState>>
+fn listed(state: InviteClientState, input: MachineInput) -> Option<MachineRow<InviteClientState>>
     ensures { result ≡ invite_client state input }
 {
-    use Clock::{Again, EndIn, Keep, Linger, StopAll};
-    use Input::{EndDue, Event, RepeatDue};
+    use TimerChange::{Again, EndIn, Keep, Linger, StopAll};
+    use MachineInput::{EndDue, Event, RepeatDue};
     use InviteClientState::{Accepted, Calling, Completed, Proceeding, Terminated};
     use TxEvent::{Failure, Provisional, Stop, Success, TransportError};
 

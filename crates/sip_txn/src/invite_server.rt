@@ -1,8 +1,8 @@
 //! The server transaction of an INVITE (RFC 3261 section 17.2.1, with RFC 6026 section 7.1).
 
 use crate::event::{TxEvent, TxOut, TxPass, TxSend};
-use crate::machine::{Machine, Row, goes_to};
-use crate::timers::{Clock, Growth, Input, Reliability, T1_TIMES_64, T4, Timers};
+use crate::machine::{Machine, MachineRow, goes_to};
+use crate::timers::{Growth, MachineInput, Reliability, T1_TIMES_64, T4, TimerChange, Timers};
 use std::marker::Model;
 
 /// The states of RFC 3261 figure 7, with Accepted of RFC 6026.
@@ -93,11 +93,11 @@ ghost use Rattle.std.specs.Prelude.{◌≡◌};
 ghost use Rattle.sip_txn.specs.InviteServer.{invite_server};
 
 /// The table's row for a state and an input (RFC 3261 section 17.2.1, with RFC 6026 section 7.1).
-fn listed(state: InviteServerState, input: Input) -> Option<Row<InviteServerState>>
+fn listed(state: InviteServerState, input: MachineInput) -> Option<MachineRow<InviteServerState>>
     ensures { result ≡ invite_server state input }
 {
-    use Clock::{Again, EndIn, Keep, Linger, RepeatAndEnd, StopAll};
-    use Input::{EndDue, Event, RepeatDue};
+    use TimerChange::{Again, EndIn, Keep, Linger, RepeatAndEnd, StopAll};
+    use MachineInput::{EndDue, Event, RepeatDue};
     use InviteServerState::{Accepted, Completed, Confirmed, Proceeding, Terminated};
     use TxEvent::{Ack, AnswerFailure, AnswerProvisional, AnswerSuccess, Request};
 

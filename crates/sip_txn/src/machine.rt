@@ -4,13 +4,13 @@ ghost use Rattle.std.specs.Prelude.{◌≡◌};
 ghost use Rattle.sip_txn.specs.Machine.{row_machine, row_out, goes_to};
 
 use crate::event::TxOut;
-use crate::timers::{Clock, Reliability, Timers};
+use crate::timers::{Reliability, TimerChange, Timers};
 
 /// A row of a table: the next state, what happens to the timers, and what is sent and passed.
 #[derive(Clone, Copy)]
-pub struct Row<S> {
+pub struct MachineRow<S> {
     pub next: S,
-    pub clock: Clock,
+    pub clock: TimerChange,
     pub out: TxOut,
 }
 
@@ -23,15 +23,15 @@ pub struct Machine<S> {
 }
 
 /// A row of a table, by its parts.
-pub(crate) fn goes_to<S>(next: S, clock: Clock, out: TxOut) -> Option<Row<S>>
+pub(crate) fn goes_to<S>(next: S, clock: TimerChange, out: TxOut) -> Option<MachineRow<S>>
     ensures { result ≡ goes_to next clock out }
 {
-    Some(Row { next, clock, out })
+    Some(MachineRow { next, clock, out })
 }
 
 impl<S: Copy> Machine<S> {
     /// Does what the row says; without a row nothing changes.
-    pub(crate) fn follow(&mut self, row: Option<Row<S>>, now: u64) -> TxOut
+    pub(crate) fn follow(&mut self, row: Option<MachineRow<S>>, now: u64) -> TxOut
         ensures next { self.new ≡ row_machine row now self.old }
         ensures out { result ≡ row_out row }
     {

@@ -1,8 +1,8 @@
 //! The client transaction of a request other than INVITE (RFC 3261 section 17.1.2).
 
 use crate::event::{TxEvent, TxOut, TxPass, TxSend};
-use crate::machine::{Machine, Row, goes_to};
-use crate::timers::{Clock, Growth, Input, Reliability, T4, Timers};
+use crate::machine::{Machine, MachineRow, goes_to};
+use crate::timers::{Growth, MachineInput, Reliability, T4, TimerChange, Timers};
 use std::marker::Model;
 
 /// The states of RFC 3261 figure 6.
@@ -93,11 +93,11 @@ ghost use Rattle.std.specs.Prelude.{◌≡◌};
 ghost use Rattle.sip_txn.specs.OtherClient.{other_client};
 
 /// The table's row for a state and an input (RFC 3261 section 17.1.2.2).
-fn listed(state: OtherClientState, input: Input) -> Option<Row<OtherClientState>>
+fn listed(state: OtherClientState, input: MachineInput) -> Option<MachineRow<OtherClientState>>
     ensures { result ≡ other_client state input }
 {
-    use Clock::{Again, Keep, Linger, StopAll};
-    use Input::{EndDue, Event, RepeatDue};
+    use TimerChange::{Again, Keep, Linger, StopAll};
+    use MachineInput::{EndDue, Event, RepeatDue};
     use OtherClientState::{Completed, Proceeding, Terminated, Trying};
     use TxEvent::{Failure, Provisional, Stop, Success, TransportError};
 

@@ -1,8 +1,8 @@
 //! The server transaction of a request other than INVITE (RFC 3261 section 17.2.2).
 
 use crate::event::{TxEvent, TxOut, TxPass, TxSend};
-use crate::machine::{Machine, Row, goes_to};
-use crate::timers::{Clock, Input, Reliability, T1_TIMES_64, Timers};
+use crate::machine::{Machine, MachineRow, goes_to};
+use crate::timers::{MachineInput, Reliability, T1_TIMES_64, TimerChange, Timers};
 use std::marker::Model;
 
 /// The states of RFC 3261 figure 8.
@@ -91,11 +91,11 @@ ghost use Rattle.std.specs.Prelude.{◌≡◌};
 ghost use Rattle.sip_txn.specs.OtherServer.{other_server};
 
 /// The table's row for a state and an input (RFC 3261 section 17.2.2).
-fn listed(state: OtherServerState, input: Input) -> Option<Row<OtherServerState>>
+fn listed(state: OtherServerState, input: MachineInput) -> Option<MachineRow<OtherServerState>>
     ensures { result ≡ other_server state input }
 {
-    use Clock::{Keep, Linger, StopAll};
-    use Input::{EndDue, Event};
+    use TimerChange::{Keep, Linger, StopAll};
+    use MachineInput::{EndDue, Event};
     use OtherServerState::{Completed, Proceeding, Terminated, Trying};
     use TxEvent::{AnswerFailure, AnswerProvisional, AnswerSuccess, Request, TransportError};
 

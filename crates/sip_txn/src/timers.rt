@@ -56,7 +56,7 @@ pub enum Growth {
 
 /// What a row of a table does to the timers.
 #[derive(Clone, Copy)]
-pub enum Clock {
+pub enum TimerChange {
     /// The timers run on.
     Keep,
     /// No timer runs any more.
@@ -75,7 +75,7 @@ pub enum Clock {
 
 /// An event, where a tick is told apart by the timer that it finds due.
 #[derive(Clone, Copy)]
-pub enum Input {
+pub enum MachineInput {
     Event(TxEvent),
     EndDue,
     RepeatDue,
@@ -172,16 +172,16 @@ impl Timers {
     }
 
     /// The timers after `clock`, what a row of a table does to them.
-    pub(crate) fn run(self, reliability: Reliability, clock: Clock, now: u64) -> Timers
+    pub(crate) fn run(self, reliability: Reliability, clock: TimerChange, now: u64) -> Timers
         ensures { result ≡ run_clock reliability clock now self }
     {
         match clock {
-            Clock::Keep => self,
-            Clock::StopAll => Timers::none(),
-            Clock::EndIn(interval) => Timers::ending(now, interval),
-            Clock::Linger(interval) => Timers::ending(now, lingers(reliability, interval)),
-            Clock::RepeatAndEnd => Timers::waiting(reliability, now),
-            Clock::Again(growth) => Timers {
+            TimerChange::Keep => self,
+            TimerChange::StopAll => Timers::none(),
+            TimerChange::EndIn(interval) => Timers::ending(now, interval),
+            TimerChange::Linger(interval) => Timers::ending(now, lingers(reliability, interval)),
+            TimerChange::RepeatAndEnd => Timers::waiting(reliability, now),
+            TimerChange::Again(growth) => Timers {
                 repeat: self.repeat.map(|repeat| repeat.again(growth, now)),
                 end: self.end,
             },
@@ -200,18 +200,18 @@ impl Timers {
     }
 
     /// What the event is to a machine with these timers.
-    pub(crate) fn input(&self, event: TxEvent, now: u64) -> Input
+    pub(crate) fn input(&self, event: TxEvent, now: u64) -> MachineInput
         ensures { result ≡ input_of event now self.now }
     {
         let TxEvent::Tick = event else {
-            return Input::Event(event);
+            return MachineInput::Event(event);
         };
         if self.end.is_some_and(|end| end <= now) {
-            Input::EndDue
+            MachineInput::EndDue
         } else if self.repeat.is_some_and(|repeat| repeat.at <= now) {
-            Input::RepeatDue
+            MachineInput::RepeatDue
         } else {
-            Input::NothingDue
+            MachineInput::NothingDue
         }
     }
 }

@@ -23,8 +23,8 @@ pub use Rattle.sip_lex.specs.Outside.{pieces_from, pieces_outside}
 pub use Rattle.sip_lex.specs.Pieces.{pieces, pieces_behind}
 pub use Rattle.sip_lex.specs.Sheltered.{LacksOutside, cut_outside, end_place, is_closed, is_plain, place_after}
 pub use Rattle.sip_lex.specs.Values.{is_line, is_value}
-pub use Rattle.sip_lex.specs.declared.sheltered.Place.{Place}
-pub use Rattle.sip_lex.specs.declared.sheltered.Place.TheVariants.{Plain}
+pub use Rattle.sip_lex.specs.declared.sheltered.ShelterState.{ShelterState}
+pub use Rattle.sip_lex.specs.declared.sheltered.ShelterState.TheVariants.{Plain}
 pub use Rattle.sip_lex.specs.declared.sheltered.Shelter.TheVariants.{QuotesAndAngles}
 pub use Rattle.sip_uri.specs.Contact.{ContactText, Form, are_items, contact_of, contact_params, form_of, is_contact_param, items_behind, q_of, q_value_if_any}
 pub use Rattle.sip_uri.specs.Fault.{Gives}

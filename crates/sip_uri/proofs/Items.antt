@@ -1,5 +1,5 @@
 -- The items of a value, by its pieces.
-use Rattle.sip_uri.proofs.Common.{◌≡◌, ℕ, true, List, [], ◌∷◌, map, Option, Some, refl, sym, ap, ◌∙◌, ◌≢◌, ◌&&◌, OnSome, onto_first, AllByRecursion, and_from, and_parts, QuotesAndAngles, Place, Plain, trim, pieces_from, pieces_outside, LacksOutside}
+use Rattle.sip_uri.proofs.Common.{◌≡◌, ℕ, true, List, [], ◌∷◌, map, Option, Some, refl, sym, ap, ◌∙◌, ◌≢◌, ◌&&◌, OnSome, onto_first, AllByRecursion, and_from, and_parts, QuotesAndAngles, ShelterState, Plain, trim, pieces_from, pieces_outside, LacksOutside}
 use Rattle.sip_uri.proofs.Common.{end_place, is_closed, place_after, pieces_outside-cut, cut_outside_again, joined, joined-behind, are_items, items_behind, AreItems, ltb, length, common_steps, arith}
 use Rattle.std.specs.List.{flat_map}
 use Rattle.sip_lex.specs.Outside.{pieces_outside_behind}
@@ -18,17 +18,17 @@ Closed piece = end_place QuotesAndAngles Plain piece ≡ Plain
 -- ---- the pieces of a closed text are closed
 
 -- the first piece from this place on, the others from plain text on
-abbrev EndFrom : Place → List (List ℕ) → Type 0
+abbrev EndFrom : ShelterState → List (List ℕ) → Type 0
 EndFrom place [] = place ≡ Plain
 EndFrom place (part ∷ parts) = (end_place QuotesAndAngles place part ≡ Plain) × AllByRecursion Closed parts
 
 all_closed : (parts : List (List ℕ)) → EndFrom Plain parts → AllByRecursion Closed parts
 all_closed parts h = grind arith
 
-onto_ends : (place : Place) (b : ℕ) (parts : List (List ℕ)) → EndFrom (place_after QuotesAndAngles place b) parts → EndFrom place (onto_first b parts)
+onto_ends : (place : ShelterState) (b : ℕ) (parts : List (List ℕ)) → EndFrom (place_after QuotesAndAngles place b) parts → EndFrom place (onto_first b parts)
 onto_ends place b parts h = grind arith
 
-pieces_end : (place : Place) (bs : List ℕ) → end_place QuotesAndAngles place bs ≡ Plain → EndFrom place (pieces_from QuotesAndAngles 44 place bs)
+pieces_end : (place : ShelterState) (bs : List ℕ) → end_place QuotesAndAngles place bs ≡ Plain → EndFrom place (pieces_from QuotesAndAngles 44 place bs)
 pieces_end place [] h = (h, tt)
 pieces_end place (b ∷ bs) h =
     let later = place_after QuotesAndAngles place b in

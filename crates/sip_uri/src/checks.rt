@@ -10,7 +10,7 @@ ghost use Rattle.sip_uri.specs.inner.Progress.{is_whole, progress_after};
 ghost use Rattle.sip_uri.specs.Reading.{is_param, is_port_if_any, is_sip};
 ghost use Rattle.sip_uri.specs.inner.Seen.{parts};
 
-use crate::cut::Cut;
+use crate::cut::UriParts;
 use crate::fault::UriFault;
 use crate::host::{is_host, read_port};
 
@@ -130,7 +130,7 @@ fn is_port_if_any(port: Option<&[u8]>) -> bool
     }
 }
 
-fn are_texts(cut: &Cut<'_>) -> bool
+fn are_texts(cut: &UriParts<'_>) -> bool
     ensures { result ≡ are_texts (parts cut.now) }
 {
     is_user_if_any(cut.user) && are_params_if_any(cut.params) && are_bytes_if_any(cut.headers)
@@ -140,7 +140,7 @@ fn are_texts(cut: &Cut<'_>) -> bool
 ///
 /// Each byte is tested with its part, so parts without a fault have no other bytes.
 #[tactic(auto, unfolding(crate::specs::inner::Checked::part_fault))]
-fn part_fault(cut: &Cut<'_>) -> Option<UriFault>
+fn part_fault(cut: &UriParts<'_>) -> Option<UriFault>
     ensures { result ≡ part_fault (parts cut.now) }
 {
     if !is_host(cut.host) {
@@ -157,7 +157,7 @@ fn part_fault(cut: &Cut<'_>) -> Option<UriFault>
 
 /// The first fault of a text that was cut so. Only a text with a fault is looked at once more: a byte
 /// that stands in no URI counts before a fault of the host or the port.
-pub(crate) fn first_fault(text: &[u8], cut: &Cut<'_>) -> Option<UriFault>
+pub(crate) fn first_fault(text: &[u8], cut: &UriParts<'_>) -> Option<UriFault>
     ensures { result ≡ named_fault text.now (part_fault (parts cut.now)) }
 {
     let fault = part_fault(cut)?;

@@ -3,7 +3,7 @@
 ghost use Rattle.std.specs.Prelude.{◌≡◌, ◌<◌, IfErr, IfOk, IfSome, Ok, Some, List, map, length, true};
 ghost use Rattle.std.specs.List.{AllByRecursion, list_all};
 ghost use Rattle.sip_lex.specs.declared.sheltered.Shelter.TheVariants.{QuotesAndAngles};
-ghost use Rattle.sip_lex.specs.declared.sheltered.Place.TheVariants.{Plain};
+ghost use Rattle.sip_lex.specs.declared.sheltered.ShelterState.TheVariants.{Plain};
 ghost use Rattle.sip_lex.specs.Cut.{seen_cut};
 ghost use Rattle.sip_lex.specs.Sheltered.{cut_outside};
 ghost use Rattle.sip_uri.specs.Contact.{ContactText, are_items, contact_of, contact_of_form, contacts_of, items_behind, takeable};

@@ -11,7 +11,7 @@ use sip_lex::cut_at;
 
 /// The parts of a URI behind its scheme, as they stand in the text.
 #[derive(Clone, Copy)]
-pub(crate) struct Cut<'a> {
+pub(crate) struct UriParts<'a> {
     pub user: Option<&'a [u8]>,
     pub host: &'a [u8],
     pub port: Option<&'a [u8]>,
@@ -46,14 +46,14 @@ pub(crate) fn user_and_rest(body: &[u8]) -> (Option<&[u8]>, &[u8])
 
 /// Cuts any text behind a scheme into the parts that a URI would have.
 #[tactic(auto, unfolding(crate::specs::Reading::parts_of))]
-pub(crate) fn cut_body(body: &[u8]) -> Cut<'_>
+pub(crate) fn cut_body(body: &[u8]) -> UriParts<'_>
     ensures { parts result ≡ parts_of body.now }
 {
     let (user, rest) = user_and_rest(body);
     let (host, tail) = cut_host(rest);
     let (tail, headers) = cut_at(tail, b'?');
     let (port, params) = port_and_params(tail);
-    Cut {
+    UriParts {
         user,
         host,
         port,

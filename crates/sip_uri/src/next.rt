@@ -9,7 +9,7 @@ ghost use Rattle.sip_uri.specs.inner.Hop.{parts_hop};
 ghost use Rattle.sip_uri.specs.Reading.{is_port_if_any};
 ghost use Rattle.sip_uri.specs.inner.Seen.{parts};
 
-use crate::cut::Cut;
+use crate::cut::UriParts;
 use crate::hop::{Hop, Transport};
 use crate::host::{read_address, read_port};
 use sip_lex::cut_at;
@@ -89,7 +89,7 @@ fn port_number(port: Option<&[u8]>) -> u16
 }
 
 /// The address and port of a URI with these parts, where a message may be sent there.
-pub(crate) fn hop_of(cut: &Cut<'_>) -> Option<Hop>
+pub(crate) fn hop_of(cut: &UriParts<'_>) -> Option<Hop>
     requires { IsTrue (is_port_if_any (parts cut.now).port) }
     ensures { result ≡ parts_hop (parts cut.now) }
 {

@@ -9,13 +9,13 @@ ghost use Rattle.sip_uri.specs.inner.Seen.{parts};
 ghost use Rattle.sip_uri.specs.Uri.{Uri, spelling};
 
 use crate::checks::{begins_with_sip, first_fault};
-use crate::cut::{Cut, cut_body};
+use crate::cut::{UriParts, cut_body};
 use crate::fault::UriFault;
 use crate::hop::Hop;
 use crate::next::hop_of;
 
 /// The parts of the URI that a text spells, or its first fault.
-pub(crate) fn cut_uri(text: &[u8]) -> Result<Cut<'_>, UriFault>
+pub(crate) fn cut_uri(text: &[u8]) -> Result<UriParts<'_>, UriFault>
     ensures parts { IfOk result (λ cut. parts cut ≡ parts_of (drop 4 text.now)) }
     ensures found { IfOk result (λ _. read_uri text.now ≡ Ok (uri_of text.now)) }
     ensures refused { IfErr result (λ fault. read_uri text.now ≡ Err fault) }

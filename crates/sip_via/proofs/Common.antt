@@ -25,8 +25,8 @@ pub use Rattle.sip_lex.specs.Hex.{hex_digit}
 pub use Rattle.sip_lex.specs.Outside.{pieces_outside, pieces_outside_behind}
 pub use Rattle.sip_lex.specs.Quoted.{quoted_at}
 pub use Rattle.sip_lex.specs.Sheltered.{cut_outside, place_after}
-pub use Rattle.sip_lex.specs.declared.sheltered.Place.{Place}
-pub use Rattle.sip_lex.specs.declared.sheltered.Place.TheVariants.{Plain}
+pub use Rattle.sip_lex.specs.declared.sheltered.ShelterState.{ShelterState}
+pub use Rattle.sip_lex.specs.declared.sheltered.ShelterState.TheVariants.{Plain}
 pub use Rattle.sip_lex.specs.declared.sheltered.Shelter.TheVariants.{Quotes}
 pub use Rattle.sip_text.proofs.laws.Good.{and_both, trim_trimmed}
 pub use Rattle.sip_text.specs.Message.{IsMessage, is_header, is_line, is_line_byte, is_trimmed, is_value}

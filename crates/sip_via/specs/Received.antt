@@ -5,7 +5,7 @@ use Rattle.std.specs.Fmt.{decimal}
 use Rattle.std.specs.List.{flat_map, list_any}
 use Rattle.std.specs.Str.{bytes_eq}
 use Rattle.sip_lex.specs.declared.sheltered.Shelter.TheVariants.{Quotes}
-use Rattle.sip_lex.specs.declared.sheltered.Place.TheVariants.{Plain}
+use Rattle.sip_lex.specs.declared.sheltered.ShelterState.TheVariants.{Plain}
 use Rattle.sip_lex.specs.Bytes.{trim, trim_end}
 use Rattle.sip_lex.specs.Cut.{behind}
 use Rattle.sip_lex.specs.Sheltered.{cut_outside}

@@ -142,7 +142,7 @@ fn read_key(text: &[u8]) -> Option<[u8; 16]>
 
 /// A branch parameter behind its cookie: the digits of the key, and the numbers between the dots.
 #[derive(Drop)]
-struct Parts<'a> {
+struct SplitBranch<'a> {
     key: &'a [u8],
     instance: &'a [u8],
     context: &'a [u8],
@@ -150,13 +150,13 @@ struct Parts<'a> {
 }
 
 /// The numbers between their dots.
-fn split_numbers<'a>(key: &'a [u8], numbers: &'a [u8]) -> Option<Parts<'a>>
+fn split_numbers<'a>(key: &'a [u8], numbers: &'a [u8]) -> Option<SplitBranch<'a>>
     ensures { seen_parts result ≡ with_instance key.now (cut (is 46) numbers.now) }
 {
     let (instance, rest) = cut_at(numbers, b'.');
     let (context, rest) = cut_at(rest?, b'.');
     let target = rest?;
-    Some(Parts {
+    Some(SplitBranch {
         key,
         instance,
         context,
@@ -165,7 +165,7 @@ fn split_numbers<'a>(key: &'a [u8], numbers: &'a [u8]) -> Option<Parts<'a>>
 }
 
 /// The numbers behind the key's dot.
-fn split_behind_key<'a>(key: &'a [u8], rest: &'a [u8]) -> Option<Parts<'a>>
+fn split_behind_key<'a>(key: &'a [u8], rest: &'a [u8]) -> Option<SplitBranch<'a>>
     ensures { seen_parts result ≡ with_key key.now rest.now }
 {
     match rest {
@@ -174,7 +174,7 @@ fn split_behind_key<'a>(key: &'a [u8], rest: &'a [u8]) -> Option<Parts<'a>>
     }
 }
 
-fn split_parts(text: &[u8]) -> Option<Parts<'_>>
+fn split_parts(text: &[u8]) -> Option<SplitBranch<'_>>
     ensures { seen_parts result ≡ parts_of text.now }
 {
     if text.len() < 32 {
@@ -183,7 +183,7 @@ fn split_parts(text: &[u8]) -> Option<Parts<'_>>
     split_behind_key(&text[..32], &text[32..])
 }
 
-fn read_parts(parts: &Parts<'_>) -> Option<BranchName>
+fn read_parts(parts: &SplitBranch<'_>) -> Option<BranchName>
     ensures found { IfSome result (λ name. view_parts parts.now ≡ branch_parts name) }
     ensures only { (b : BranchName) → IsBranch b → view_parts parts.now ≡ branch_parts b → result ≡ Some b }
 {

@@ -12,7 +12,7 @@ use sip_uri::{cut_host, is_host, read_port};
 
 /// The parts of a value, as they stand in the text.
 #[derive(Clone, Copy)]
-pub(crate) struct Cut<'a> {
+pub(crate) struct ViaParts<'a> {
     pub protocol: &'a [u8],
     pub version: &'a [u8],
     pub transport: &'a [u8],
@@ -43,12 +43,12 @@ fn cut_sent<'a>(
     version: &'a [u8],
     transport: &'a [u8],
     text: &'a [u8],
-) -> Cut<'a>
+) -> ViaParts<'a>
     ensures { seen_parts result ≡ sent_parts protocol.now version.now transport.now text.now }
 {
     let (host, tail) = cut_host(trim_start(text));
     let (port, params) = port_and_params(tail);
-    Cut {
+    ViaParts {
         protocol,
         version,
         transport,
@@ -60,7 +60,7 @@ fn cut_sent<'a>(
 
 /// Cuts a text of any spelling.
 #[tactic(auto, unfolding(crate::specs::ViaParts::parts_of))]
-fn cut_spelled(text: &[u8]) -> Cut<'_>
+fn cut_spelled(text: &[u8]) -> ViaParts<'_>
     ensures { seen_parts result ≡ parts_of text.now }
 {
     let (protocol, rest) = cut_at(text, b'/');
@@ -75,7 +75,7 @@ fn cut_spelled(text: &[u8]) -> Cut<'_>
 }
 
 /// Cuts any text into the parts that a Via value would have. Most values are spelled in one way up to the transport.
-pub(crate) fn cut_value(text: &[u8]) -> Cut<'_>
+pub(crate) fn cut_value(text: &[u8]) -> ViaParts<'_>
     ensures { seen_parts result ≡ parts_of text.now }
 {
     match text.strip_prefix(b"SIP/2.0/UDP ") {
@@ -95,7 +95,7 @@ fn is_port_if_any(port: Option<&[u8]>) -> bool
 
 /// Whether the parts are those of a Via value.
 #[tactic(auto, unfolding(crate::specs::ViaParts::are_parts))]
-pub(crate) fn are_parts(cut: &Cut<'_>) -> bool
+pub(crate) fn are_parts(cut: &ViaParts<'_>) -> bool
     ensures { result ≡ are_parts (seen_parts cut.now) }
 {
     cut.protocol.eq_ignore_ascii_case(b"sip")
@@ -114,7 +114,7 @@ pub(crate) fn is_trimmed(text: &[u8]) -> bool
 }
 
 /// The parts of a Via value (RFC 3261 section 20.42); `None` where the text is none.
-pub(crate) fn cut_via(text: &[u8]) -> Option<Cut<'_>>
+pub(crate) fn cut_via(text: &[u8]) -> Option<ViaParts<'_>>
     ensures found { IfSome result
         (λ cut. (is_via text.now ≡ true) × (seen_parts cut ≡ parts_of text.now)) }
     ensures none { IfNone result (is_via text.now ≡ false) }

@@ -23,9 +23,9 @@ mod via;
 
 pub use address::is_address;
 pub use branch::{BranchName, read_branch, write_branch};
-pub use edits::{begins_named, place_of};
+pub use edits::{first_is, header_index};
 pub use hex::hex_pair;
-pub use lines::{first_named, first_value, split_named};
+pub use lines::{first_header, first_value, headers_around};
 pub use marking::{marking_keeps_the_rest, readable_is_marked};
 pub use own::{BuildFault, Own, ViaFault};
 pub use own_pass::{own_branch, own_branch_of};

@@ -18,7 +18,7 @@ pub fn first_value<'a, A: Allocator>(message: &'a Message<A>, name: &[u8]) -> &'
 
 /// The first of some header lines that has that name, in any case and in long or compact form, and the lines behind it;
 /// `None` where none has it.
-pub fn split_named<'a>(
+pub fn headers_around<'a>(
     headers: HeaderLines<'a>,
     name: &[u8],
 ) -> Option<(HeaderLine<'a>, HeaderLines<'a>)>
@@ -38,10 +38,10 @@ pub fn split_named<'a>(
 }
 
 /// The first header line of that name.
-pub fn first_named<'a, A: Allocator>(message: &'a Message<A>, name: &[u8]) -> Option<HeaderLine<'a>>
+pub fn first_header<'a, A: Allocator>(message: &'a Message<A>, name: &[u8]) -> Option<HeaderLine<'a>>
     ensures found { IfSome result (λ header. first_line name.now message.now ≡ view_line header ∷ []) }
     ensures none { IfNone result (first_line name.now message.now ≡ []) }
 {
-    let (header, _) = split_named(message.headers(), name)?;
+    let (header, _) = headers_around(message.headers(), name)?;
     Some(header)
 }

@@ -4,7 +4,7 @@ ghost use Rattle.std.specs.Prelude.{◌≡◌, ◌++◌, [], IfOk, OnOk, codes, 
 ghost use Rattle.std.specs.List.{flat_map, list_any};
 ghost use Rattle.std.specs.Option.{option_copied};
 ghost use Rattle.sip_lex.specs.Sheltered.{cut_outside};
-ghost use Rattle.sip_lex.specs.declared.sheltered.Place.TheVariants.{Plain};
+ghost use Rattle.sip_lex.specs.declared.sheltered.ShelterState.TheVariants.{Plain};
 ghost use Rattle.sip_lex.specs.declared.sheltered.Shelter.TheVariants.{Quotes};
 ghost use Rattle.sip_via.specs.Address.{address_text};
 ghost use Rattle.sip_via.specs.Received.{asks_port, filled, marked_param, marked_value, received_text};
@@ -12,7 +12,7 @@ ghost use Rattle.sip_via.specs.inner.SeenParts.{seen_parts};
 ghost use Rattle.sip_via.specs.ViaParts.{is_named, is_via, params_of, parts_of};
 
 use crate::address::{add_address, add_number, is_address};
-use crate::cut::Cut;
+use crate::cut::ViaParts;
 use crate::growing::Growing;
 use crate::params::Params;
 use sip_lex::{cut_near, trim, trim_end};
@@ -116,7 +116,7 @@ fn front_len(value: &[u8], params: Option<&[u8]>) -> usize
 pub(crate) fn add_value<T: Growing>(
     out: &mut T,
     value: &[u8],
-    cut: &Cut<'_>,
+    cut: &ViaParts<'_>,
     source: Hop,
 ) -> Result<(), AllocError>
     requires empty { T.text out.old ≡ [] }

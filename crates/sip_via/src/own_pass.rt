@@ -16,10 +16,10 @@ ghost use Rattle.sip_via.specs.ViaParts.{branch_of, port_if_any, via_of_parts};
 
 use crate::address::{behind_address, behind_port, is_address};
 use crate::branch::{BranchName, read_branch};
-use crate::cut::{Cut, are_parts, cut_value, is_trimmed, port_if_any};
+use crate::cut::{ViaParts, are_parts, cut_value, is_trimmed, port_if_any};
 use crate::own::Own;
 use crate::own_value::is_own_address;
-use crate::params::first_named;
+use crate::params::first_param;
 use crate::received::DEFAULT_PORT;
 use crate::values::top_via;
 use sip_lex::is_space;
@@ -32,7 +32,7 @@ fn is_branch(name: BranchName)
 {}
 
 /// Whether the parts name this proxy's address and port.
-fn is_sent_by(cut: &Cut<'_>, own: Own) -> bool
+fn is_sent_by(cut: &ViaParts<'_>, own: Own) -> bool
     ensures { result ≡ bytes_eq cut.now.host.now (address_text own.addr)
         && port_or_default (port_if_any (option_copied cut.now.port)) == own.port }
 {
@@ -40,16 +40,16 @@ fn is_sent_by(cut: &Cut<'_>, own: Own) -> bool
 }
 
 /// The branch that the parameters name, where it is spelled as the proxy spells its own.
-fn branch_in(cut: &Cut<'_>) -> Option<BranchName>
+fn branch_in(cut: &ViaParts<'_>) -> Option<BranchName>
     ensures found { IfSome result
         (λ b. branch_of (via_of_parts (seen_parts cut.now)) ≡ Some (branch_text b)) }
     ensures only { (b : BranchName) → IsBranch b
         → branch_of (via_of_parts (seen_parts cut.now)) ≡ Some (branch_text b) → result ≡ Some b }
 {
-    read_branch(first_named(cut.params, b"branch")?)
+    read_branch(first_param(cut.params, b"branch")?)
 }
 
-fn own_branch_in(cut: &Cut<'_>, own: Own) -> Option<BranchName>
+fn own_branch_in(cut: &ViaParts<'_>, own: Own) -> Option<BranchName>
     ensures found { IfSome result (λ b. IsOwnVia own (via_of_parts (seen_parts cut.now)) b) }
     ensures only { (b : BranchName) → IsBranch b
         → IsOwnVia own (via_of_parts (seen_parts cut.now)) b → result ≡ Some b }

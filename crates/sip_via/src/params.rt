@@ -158,7 +158,7 @@ pub(crate) fn are_params(text: Option<&[u8]>) -> bool
 }
 
 /// The value of the first parameter of that name, if it has one.
-pub(crate) fn first_named<'a>(text: Option<&'a [u8]>, name: &[u8]) -> Option<&'a [u8]>
+pub(crate) fn first_param<'a>(text: Option<&'a [u8]>, name: &[u8]) -> Option<&'a [u8]>
     ensures { option_copied result ≡ first_named name.now (params_of (option_copied text.entry)) }
 {
     let mut params = Params::of(text);

@@ -13,8 +13,8 @@ ghost use Rattle.sip_via.specs.TopVia.{top_value};
 ghost use Rattle.sip_via.specs.ViaFaults.{Gives, refusal};
 ghost use Rattle.sip_via.specs.ViaParts.{via_of, via_of_parts};
 
-use crate::cut::{Cut, cut_value, cut_via, port_if_any};
-use crate::edits::place_of;
+use crate::cut::{ViaParts, cut_value, cut_via, port_if_any};
+use crate::edits::header_index;
 use crate::growing::{Growing, Short};
 use crate::marks::add_value;
 use crate::own::ViaFault;
@@ -29,7 +29,7 @@ use std::alloc::{AllocError, Allocator};
 pub(crate) const DEFAULT_PORT: u16 = 5060;
 
 /// Where a response goes to a request with a top value of these parts.
-fn reply_hop_of_parts(cut: &Cut<'_>, source: Hop) -> Hop
+fn reply_hop_of_parts(cut: &ViaParts<'_>, source: Hop) -> Hop
     ensures { result ≡ reply_of (via_of_parts (seen_parts cut.now)) source }
 {
     let sent_by = port_if_any(cut.port).unwrap_or(DEFAULT_PORT);
@@ -80,7 +80,7 @@ fn add_others<T: Growing>(
 #[derive(Clone, Copy)]
 struct CutLine<'a> {
     value: &'a [u8],
-    cut: Cut<'a>,
+    cut: ViaParts<'a>,
     space: &'a [u8],
     others: Option<&'a [u8]>,
 }
@@ -154,7 +154,7 @@ fn short_line(line: &[u8], source: Hop) -> Option<Short>
 }
 
 /// Shows that the numbers of a hop are bounded.
-fn is_source(source: Hop)
+fn fact_source(source: Hop)
     ensures { IsSource source }
 {}
 
@@ -175,7 +175,7 @@ fn with_via_line<A: Allocator>(
     ensures err { IfErr result (λ unmarked. unmarked.message ≡ message) }
     ensures memory { IfErr result (λ unmarked. unmarked.fault ≡ ViaFault.NoMemory) }
 {
-    let place = place_of(message.headers(), VIA);
+    let place = header_index(message.headers(), VIA);
     if place >= message.headers().len() {
         return Ok(message);
     }
@@ -208,7 +208,7 @@ pub fn add_received<A: Allocator + Clone>(
     ensures refused { IfErr result (λ unmarked. unmarked.fault ≡ refusal (marked message source)) }
 {
     message.is_message();
-    is_source(source);
+    fact_source(source);
     if let Some(line) = short_line(via_line(&message), source) {
         return with_via_line(message, line.as_slice());
     }

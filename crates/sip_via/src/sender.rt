@@ -8,8 +8,8 @@ ghost use Rattle.sip_via.specs.TopVia.{top_value};
 ghost use Rattle.sip_via.specs.ViaParts.{ViaText, branch_of, read_via, via_of, via_of_parts};
 ghost use Rattle.std.specs.Option.{option_copied};
 
-use crate::cut::{Cut, cut_value, cut_via, port_if_any};
-use crate::params::first_named;
+use crate::cut::{ViaParts, cut_value, cut_via, port_if_any};
+use crate::params::first_param;
 use crate::received::DEFAULT_PORT;
 use crate::values::top_via;
 use sip_text::Message;
@@ -27,13 +27,13 @@ pub struct Sender<'a> {
 }
 
 /// The sender that the parts of a Via value name.
-fn sender_in<'a>(cut: &Cut<'a>) -> Sender<'a>
+fn sender_in<'a>(cut: &ViaParts<'a>) -> Sender<'a>
     ensures { seen_sender result ≡ sender (via_of_parts (seen_parts cut.now)) }
 {
     Sender {
         host: cut.host,
         port: port_if_any(cut.port).unwrap_or(DEFAULT_PORT),
-        branch: first_named(cut.params, b"branch"),
+        branch: first_param(cut.params, b"branch"),
     }
 }
 
@@ -54,5 +54,5 @@ pub fn sender_of(value: &[u8]) -> Option<Sender<'_>>
 pub fn top_branch<A: Allocator>(message: &Message<A>) -> Option<&[u8]>
     ensures { option_copied result ≡ branch_of (via_of (top_value message.now)) }
 {
-    first_named(cut_value(top_via(message)).params, b"branch")
+    first_param(cut_value(top_via(message)).params, b"branch")
 }

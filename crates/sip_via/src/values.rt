@@ -7,7 +7,7 @@ ghost use Rattle.sip_via.specs.SeenVia.{values_behind, values_left};
 ghost use Rattle.sip_via.specs.TopVia.{has_second, top_value, values_in, via_values};
 
 use sip_lex::{Shelter, cut_outside, trim};
-use sip_text::{Message, Values};
+use sip_text::{HeaderValues, Message};
 use std::alloc::Allocator;
 use std::marker::Model;
 
@@ -19,7 +19,7 @@ pub(crate) const VIA: &[u8] = b"via";
 #[derive(Drop)]
 pub struct ViaValues<'a> {
     line: Option<&'a [u8]>,
-    lines: Values<'a, 'static>,
+    lines: HeaderValues<'a, 'static>,
 }
 
 impl<'a> Model for ViaValues<'a> {
@@ -41,7 +41,7 @@ fn cut_value(text: &[u8]) -> (&[u8], Option<&[u8]>)
 }
 
 /// The line that is begun, or else the next one.
-fn take_line<'a>(line: &mut Option<&'a [u8]>, lines: &mut Values<'a, 'static>) -> Option<&'a [u8]>
+fn take_line<'a>(line: &mut Option<&'a [u8]>, lines: &mut HeaderValues<'a, 'static>) -> Option<&'a [u8]>
     ensures some { IfSome result
         (λ text. values_left (option_copied line.old) lines.old ≡ values_in text.now ++ flat_map values_in lines.new) }
     ensures none { IfNone result (values_left (option_copied line.old) lines.old ≡ []) }

@@ -9,7 +9,7 @@ ghost use Rattle.sip_via.specs.ViaParts.{ViaText, branch_of, is_rport, port_if_a
 
 use crate::cut::{cut_value, cut_via, port_if_any};
 use crate::own::ViaFault;
-use crate::params::{first_named, has_rport};
+use crate::params::{first_param, has_rport};
 use std::alloc::Allocator;
 use std::marker::Model;
 
@@ -74,7 +74,7 @@ impl<A: Allocator> Via<A> {
     pub fn branch(&self) -> Option<&[u8]>
         ensures { option_copied result ≡ branch_of self.now }
     {
-        first_named(cut_value(&self.text).params, b"branch")
+        first_param(cut_value(&self.text).params, b"branch")
     }
 
     /// Whether a parameter `rport` has that number (RFC 3581 section 4).

@@ -5,4 +5,4 @@ mod client;
 mod wait;
 
 pub use client::{Polled, place_of_first};
-pub use wait::{Came, MOST_CLIENTS, is_gone, wait_for};
+pub use wait::{MOST_CLIENTS, PolledEvents, is_gone, wait_for};

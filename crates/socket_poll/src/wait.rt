@@ -19,11 +19,11 @@ const NOTHING: pollfd = pollfd {
 
 /// What came of each socket while it was waited for.
 #[derive(Clone, Copy)]
-pub struct Came {
+pub struct PolledEvents {
     entries: [pollfd; MOST_SOCKETS],
 }
 
-impl Came {
+impl PolledEvents {
     /// What came of the socket by which clients come, as the events of `poll`.
     pub fn of_listener(&self) -> i16 {
         self.entries[0].revents
@@ -67,7 +67,7 @@ fn longest_wait<C: Polled>(clients: &[C], now: u64) -> i32 {
 
 /// Waits until a client comes, something comes of one, or there is something to be done for one, and answers what came. 64 clients are
 /// waited for at most. None where the system cannot wait, as where a signal ends it.
-pub fn wait_for<L: AsRawFd, C: Polled>(listener: &L, clients: &[C], now: u64) -> Option<Came> {
+pub fn wait_for<L: AsRawFd, C: Polled>(listener: &L, clients: &[C], now: u64) -> Option<PolledEvents> {
     let mut entries = [NOTHING; MOST_SOCKETS];
     entries[0] = pollfd {
         fd: listener.as_raw_fd(),
@@ -87,6 +87,6 @@ pub fn wait_for<L: AsRawFd, C: Polled>(listener: &L, clients: &[C], now: u64) ->
     if net::poll(asked, longest_wait(clients, now)) < 0 {
         None
     } else {
-        Some(Came { entries })
+        Some(PolledEvents { entries })
     }
 }

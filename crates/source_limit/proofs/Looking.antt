@@ -4,7 +4,7 @@ use Rattle.std.proofs.Common.{List, Option, Result, Ok, Err, unwrap_or}
 use Rattle.std.specs.Prelude.{IfOk, OnErr, OnOk}
 use Rattle.std.specs.BTreeMap.{insert_entry}
 use Rattle.std.specs.Ordering.{nat_cmp}
-use Rattle.source_limit.specs.declared.bucket.Bucket.{Bucket}
+use Rattle.source_limit.specs.declared.bucket.TokenBucket.{TokenBucket}
 use Rattle.source_limit.specs.Bucket.{has_left, spend, spent_at, unspent}
 use Rattle.source_limit.specs.Limits.{Limits, bucket_of, charged, charged_at, is_admitted, is_beyond, kept_at, spent_by, still_spent, swept_at}
 use Rattle.source_limit.specs.Runs.{Looks, is_counted, spent}
@@ -18,7 +18,7 @@ swept_most now l = by _
     by false = refl
 
 -- a datagram that is spent is spent at each later moment, but for what came back
-spent_on : (most now moment : ℕ) (b : Bucket) → now ≤ moment → spent_at most now b + 1000 ≤ spent_at most moment (spend most now b) + most * (moment - now)
+spent_on : (most now moment : ℕ) (b : TokenBucket) → now ≤ moment → spent_at most now b + 1000 ≤ spent_at most moment (spend most now b) + most * (moment - now)
 spent_on most now moment b later =
     let fewer : moment - max now b.since ≤ moment - now = omega arith in
     let less : most * (moment - max now b.since) ≤ most * (moment - now) = mul-le-mul_left most fewer in
@@ -35,7 +35,7 @@ module _ (now address : ℕ) (old new : Limits)
     spends = λ e. absurd cc;
     same = λ e moment later.
         ap (λ (k : ℕ). spent_by k new.buckets address moment) (most ∙ sym (swept_most now old))
-        ∙ ap (λ (bs : List (ℕ × Bucket)). spent_by (swept_at now old).most bs address moment) is
+        ∙ ap (λ (bs : List (ℕ × TokenBucket)). spent_by (swept_at now old).most bs address moment) is
         ∙ same address moment later;
     others = others;
   }
@@ -59,7 +59,7 @@ module _ (now address : ℕ) (old new : Limits)
         spends = λ e moment later.
             let on : spent_at swept.most now b + 1000 ≤ spent_at swept.most moment (spend swept.most now b) + swept.most * (moment - now) = spent_on swept.most now moment b later in
             let Q : ℕ → Type 0 = λ k. k + 1000 ≤ spent_at swept.most moment (spend swept.most now b) + swept.most * (moment - now) in
-            let R : Bucket → Type 0 = λ x. spent old address now + 1000 ≤ spent_at swept.most moment x + swept.most * (moment - now) in
+            let R : TokenBucket → Type 0 = λ x. spent old address now + 1000 ≤ spent_at swept.most moment x + swept.most * (moment - now) in
             let there : spent old address now + 1000 ≤ spent_at swept.most moment (bucket_of new.buckets address) + swept.most * (moment - now) =
             subst R (sym own) (subst Q is_now on) in
             let M : ℕ → Type 0 = λ k. spent old address now + 1000 ≤ spent_at k moment (bucket_of new.buckets address) + swept.most * (moment - now) in
@@ -83,7 +83,7 @@ module _ (now address : ℕ) (old new : Limits)
 
       by : (beyond left said : Bool) → is_beyond swept.buckets address ≡ beyond → has_left swept.most now (bucket_of swept.buckets address) ≡ left
           → said ≡ (beyond || left)
-          → new.buckets ≡ cond {A = List (ℕ × Bucket)} beyond swept.buckets (cond {A = List (ℕ × Bucket)} left (insert_entry nat_cmp swept.buckets address (spend swept.most now (bucket_of swept.buckets address))) swept.buckets)
+          → new.buckets ≡ cond {A = List (ℕ × TokenBucket)} beyond swept.buckets (cond {A = List (ℕ × TokenBucket)} left (insert_entry nat_cmp swept.buckets address (spend swept.most now (bucket_of swept.buckets address))) swept.buckets)
           → Looks old now address (said && not beyond) new
       by true left true is_beyond_so is_left_so said same_buckets = uncounted same_buckets
       by true left false is_beyond_so is_left_so said same_buckets = absurd cc
@@ -100,7 +100,7 @@ module _ (now address : ℕ) (old mid new : Limits) (is : mid ≡ swept_at now o
   pub others_same : (other moment : ℕ) → other ≢ address → now ≤ moment → spent new other moment ≡ spent old other moment
   others_same other moment apart later =
       ap (λ (k : ℕ). spent_by k new.buckets other moment) most
-      ∙ ap (λ (k : Option Bucket). spent_at mid.most moment (unwrap_or k unspent)) (kept other apart)
+      ∙ ap (λ (k : Option TokenBucket). spent_at mid.most moment (unwrap_or k unspent)) (kept other apart)
       ∙ same other moment later
 
   swept_same : (a moment : ℕ) → now ≤ moment → spent (swept_at now old) a moment ≡ spent old a moment

@@ -5,12 +5,12 @@ use Rattle.std.specs.Int.{from_be_bytes, w32}
 use Rattle.std.specs.List.{filter}
 use Rattle.std.specs.Map.{lookup}
 use Rattle.std.specs.Ordering.{nat_cmp}
-use Rattle.source_limit.specs.declared.bucket.Bucket.{Bucket}
+use Rattle.source_limit.specs.declared.bucket.TokenBucket.{TokenBucket}
 use Rattle.source_limit.specs.Bucket.{has_left, is_spent, spend, spent_at, unspent}
 
 -- each address that is kept, as a number, with what it has spent
 abbrev pub Buckets : Type 0
-Buckets = List (ℕ × Bucket)
+Buckets = List (ℕ × TokenBucket)
 
 pub record Limits : Type 0 where
   -- how many datagrams an address may have at once, and in each second
@@ -27,11 +27,11 @@ most_addresses = 65536
 abbrev pub address_of : List ℕ → ℕ
 address_of source = from_be_bytes w32 source
 
-abbrev pub kept_at : Buckets → ℕ → Option Bucket
+abbrev pub kept_at : Buckets → ℕ → Option TokenBucket
 kept_at buckets address = lookup (is_at (nat_cmp address)) buckets
 
 -- an address that is not kept has spent nothing
-abbrev pub bucket_of : Buckets → ℕ → Bucket
+abbrev pub bucket_of : Buckets → ℕ → TokenBucket
 bucket_of buckets address = unwrap_or (kept_at buckets address) unspent
 
 -- what an address has spent at a moment, in thousandths of a datagram

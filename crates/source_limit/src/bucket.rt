@@ -7,14 +7,14 @@ const DATAGRAM: u64 = 1_000;
 
 /// What an address has spent, in thousandths of a datagram, and the millisecond of which this is true.
 #[derive(Clone, Copy)]
-pub struct Bucket {
+pub struct TokenBucket {
     pub spent: u64,
     pub since: u64,
 }
 
-impl Bucket {
+impl TokenBucket {
     /// Of an address that has spent nothing.
-    pub(crate) const UNSPENT: Bucket = Bucket { spent: 0, since: 0 };
+    pub(crate) const UNSPENT: TokenBucket = TokenBucket { spent: 0, since: 0 };
 
     /// What is still spent at this moment, in thousandths of a datagram: `most` of them come back each millisecond.
     fn spent_at(&self, most: u32, now: u64) -> u64
@@ -40,11 +40,11 @@ impl Bucket {
     }
 
     /// A datagram more is spent at this moment.
-    pub(crate) fn spend(&self, most: u32, now: u64) -> Bucket
+    pub(crate) fn spend(&self, most: u32, now: u64) -> TokenBucket
         requires { has_left most now self.now ≡ true }
         ensures { result ≡ spend most now self.now }
     {
-        Bucket {
+        TokenBucket {
             spent: self.spent_at(most, now) + DATAGRAM,
             since: now.max(self.since),
         }

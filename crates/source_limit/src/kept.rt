@@ -5,7 +5,7 @@ ghost use Rattle.std.specs.Ordering.{nat_cmp};
 ghost use Rattle.source_limit.specs.Bucket.{has_left, spend};
 ghost use Rattle.source_limit.specs.Limits.{bucket_of, charged, is_admitted, is_beyond, kept_at, most_addresses, spent_by, still_spent};
 
-use crate::bucket::Bucket;
+use crate::bucket::TokenBucket;
 use std::alloc::{AllocError, Allocator};
 use std::collections::BTreeMap;
 
@@ -14,7 +14,7 @@ const MOST_ADDRESSES: usize = 65_536;
 
 /// Forgets the addresses that have spent nothing any more.
 pub(crate) fn forget_unspent<A: Allocator>(
-    buckets: &mut BTreeMap<u32, Bucket, A>,
+    buckets: &mut BTreeMap<u32, TokenBucket, A>,
     most: u32,
     now: u64,
 )
@@ -26,7 +26,7 @@ pub(crate) fn forget_unspent<A: Allocator>(
 }
 
 /// What an address has spent, if it is kept.
-fn kept_at<A: Allocator>(buckets: &BTreeMap<u32, Bucket, A>, address: u32) -> Option<Bucket>
+fn kept_at<A: Allocator>(buckets: &BTreeMap<u32, TokenBucket, A>, address: u32) -> Option<TokenBucket>
     ensures { result ≡ kept_at buckets.now.entries address }
 {
     buckets.get(&address).copied()
@@ -34,9 +34,9 @@ fn kept_at<A: Allocator>(buckets: &BTreeMap<u32, Bucket, A>, address: u32) -> Op
 
 /// Keeps what an address has spent.
 fn keep<A: Allocator + Clone>(
-    buckets: &mut BTreeMap<u32, Bucket, A>,
+    buckets: &mut BTreeMap<u32, TokenBucket, A>,
     address: u32,
-    bucket: Bucket,
+    bucket: TokenBucket,
 ) -> Result<(), AllocError>
     ensures ok { OnOk result (buckets.new.entries ≡ insert_entry nat_cmp buckets.old.entries address bucket) }
     ensures own { OnOk result (kept_at buckets.new.entries address ≡ Some bucket) }
@@ -56,7 +56,7 @@ fn keep<A: Allocator + Clone>(
 ///
 /// Only where the allocator refuses; then nothing is spent.
 pub(crate) fn charge<A: Allocator + Clone>(
-    buckets: &mut BTreeMap<u32, Bucket, A>,
+    buckets: &mut BTreeMap<u32, TokenBucket, A>,
     address: u32,
     most: u32,
     now: u64,
@@ -74,7 +74,7 @@ pub(crate) fn charge<A: Allocator + Clone>(
     if kept.is_none() && buckets.len() >= MOST_ADDRESSES {
         return Ok(true);
     }
-    let bucket = kept.unwrap_or(Bucket::UNSPENT);
+    let bucket = kept.unwrap_or(TokenBucket::UNSPENT);
     if !bucket.has_left(most, now) {
         return Ok(false);
     }

@@ -1,14 +1,14 @@
 //! What follows for one address.
 ghost use Rattle.std.specs.Prelude.{◌+◌, ◌-◌, ◌*◌, ◌≤◌, ℕ, List};
 ghost use Rattle.std.specs.List.{AllByRecursion};
-ghost use Rattle.source_limit.specs.declared.bucket.Bucket.{Bucket};
+ghost use Rattle.source_limit.specs.declared.bucket.TokenBucket.{TokenBucket};
 ghost use Rattle.source_limit.specs.Bucket.{admitted_of};
 ghost use Rattle.source_limit.specs.Runs.{NoRunExceedsTheRate};
 
 /// Of the datagrams of one address that come within some milliseconds, whatever it had spent before and in whichever order their
 /// moments were read, at most `most` are admitted and `most` thousandths of one more for each of these milliseconds.
 pub fn no_address_exceeds_its_rate()
-    ensures { (most first last : ℕ) (bucket : Bucket) (moments : List ℕ) → AllByRecursion (λ now. (first ≤ now) × (now ≤ last)) moments
+    ensures { (most first last : ℕ) (bucket : TokenBucket) (moments : List ℕ) → AllByRecursion (λ now. (first ≤ now) × (now ≤ last)) moments
         → 1000 * admitted_of most bucket moments ≤ 1000 * most + most * (last - first) }
 {}
 

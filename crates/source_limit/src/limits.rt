@@ -3,7 +3,7 @@ ghost use Rattle.std.specs.Prelude.{◌≡◌, ◌≢◌, ◌≤◌, ℕ, [], fa
 ghost use Rattle.source_limit.specs.Limits.{address_of, charged_at, is_admitted, most_addresses, spent_by, swept_at};
 ghost use Rattle.source_limit.specs.Runs.{Looks, is_counted};
 
-use crate::bucket::Bucket;
+use crate::bucket::TokenBucket;
 use crate::kept::{charge, forget_unspent};
 use std::alloc::{AllocError, Allocator, Global};
 use std::collections::BTreeMap;
@@ -20,7 +20,7 @@ const SECOND: u64 = 1_000;
 pub struct SourceLimits<A: Allocator = Global> {
     most: u32,
     swept: u64,
-    buckets: BTreeMap<u32, Bucket, A>,
+    buckets: BTreeMap<u32, TokenBucket, A>,
 }
 
 impl<A: Allocator> Model for SourceLimits<A> {

@@ -3,7 +3,7 @@ use denote.Param.Send.{IsSend, sendable}
 use Rattle.std.proofs.Crossing.{crosses}
 use Rattle.std.specs.contracts.alloc.Global.{the_row as heap_row}
 use Rattle.std.specs.contracts.impls.GlobalAllocator.TheImpl.{ghosts}
-use Rattle.call_answers.specs.contracts.queue.Queue.{the_row as queue_row}
+use Rattle.call_answers.specs.contracts.queue.ResponseQueue.{the_row as queue_row}
 
 pub queue_send : IsSend (queue_row heap_row ghosts)
 queue_send = search (crosses, sendable) depth 60 fits 20000

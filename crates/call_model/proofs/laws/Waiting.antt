@@ -3,16 +3,16 @@ use Rattle.call_model.proofs.Common.{◌≡◌, ◌∙◌, ℕ, Bool, true, fals
 use Rattle.call_model.proofs.Common.{InviteClient, OtherClient, client_after, client_out, is_timeout, is_fault, awaits, invite_awaits, other_awaits}
 use Rattle.sip_txn.specs.declared.event.TxEvent.TheVariants as event
 use Rattle.sip_txn.specs.declared.event.TxPass.{TxPass}
-use Rattle.sip_txn.specs.declared.timers.Input.{Input}
-use Rattle.sip_txn.specs.declared.timers.Input.TheVariants as input
-use Rattle.sip_txn.specs.declared.machine.Row.{Row}
+use Rattle.sip_txn.specs.declared.timers.MachineInput.{MachineInput}
+use Rattle.sip_txn.specs.declared.timers.MachineInput.TheVariants as input
+use Rattle.sip_txn.specs.declared.machine.MachineRow.{MachineRow}
 use Rattle.sip_txn.specs.declared.invite_client.InviteClientState.TheVariants as invite
 use Rattle.sip_txn.specs.declared.other_client.OtherClientState.TheVariants as other
 use Rattle.sip_txn.specs.Machine.{row_machine}
 use Rattle.sip_txn.specs.Timers.{input_of}
 
 -- the events by which a transaction waits no more
-abbrev ends : Input → Bool
+abbrev ends : MachineInput → Bool
 ends (input.Event event.Success) = true
 ends (input.Event event.Failure) = true
 ends (input.Event event.Stop) = true
@@ -23,18 +23,18 @@ hands_up p = is_timeout p || is_fault p
 
 -- one that waits afterwards has waited; one that hands up a timeout or a fault has waited, and does no more; nor does one
 -- by those events
-abbrev goes_well : (before after : Bool) → TxPass → Input → Bool
+abbrev goes_well : (before after : Bool) → TxPass → MachineInput → Bool
 goes_well before after p i = (not after || before) && ((not (hands_up p) || (before && not after)) && (not (ends i) || not after))
 
-abbrev next_state : {S : Type 0} → S → Option (Row S) → S
+abbrev next_state : {S : Type 0} → S → Option (MachineRow S) → S
 next_state s None = s
 next_state s (Some r) = r.next
 
-each_input : (P : Input → Type 0) → P input.EndDue → P input.RepeatDue → P input.NothingDue
+each_input : (P : MachineInput → Type 0) → P input.EndDue → P input.RepeatDue → P input.NothingDue
     → P (input.Event event.Request) → P (input.Event event.Provisional) → P (input.Event event.Success) → P (input.Event event.Failure)
     → P (input.Event event.AnswerProvisional) → P (input.Event event.AnswerSuccess) → P (input.Event event.AnswerFailure)
     → P (input.Event event.Ack) → P (input.Event event.TransportError) → P (input.Event event.Tick) → P (input.Event event.Stop)
-    → (i : Input) → P i
+    → (i : MachineInput) → P i
 each_input P a b c d e f g h j k l m n o input.EndDue = a
 each_input P a b c d e f g h j k l m n o input.RepeatDue = b
 each_input P a b c d e f g h j k l m n o input.NothingDue = c
@@ -50,31 +50,31 @@ each_input P a b c d e f g h j k l m n o (input.Event event.TransportError) = m
 each_input P a b c d e f g h j k l m n o (input.Event event.Tick) = n
 each_input P a b c d e f g h j k l m n o (input.Event event.Stop) = o
 
-abbrev InviteWell : InviteClientState → Input → Type 0
+abbrev InviteWell : InviteClientState → MachineInput → Type 0
 InviteWell s i = goes_well (invite_awaits s) (invite_awaits (next_state s (invite_client s i))) (row_out (invite_client s i)).pass i ≡ true
 
-invite_well : (s : InviteClientState) (i : Input) → InviteWell s i
+invite_well : (s : InviteClientState) (i : MachineInput) → InviteWell s i
 invite_well invite.Calling i = each_input (InviteWell invite.Calling) refl refl refl refl refl refl refl refl refl refl refl refl refl refl i
 invite_well invite.Proceeding i = each_input (InviteWell invite.Proceeding) refl refl refl refl refl refl refl refl refl refl refl refl refl refl i
 invite_well invite.Completed i = each_input (InviteWell invite.Completed) refl refl refl refl refl refl refl refl refl refl refl refl refl refl i
 invite_well invite.Accepted i = each_input (InviteWell invite.Accepted) refl refl refl refl refl refl refl refl refl refl refl refl refl refl i
 invite_well invite.Terminated i = each_input (InviteWell invite.Terminated) refl refl refl refl refl refl refl refl refl refl refl refl refl refl i
 
-abbrev OtherWell : OtherClientState → Input → Type 0
+abbrev OtherWell : OtherClientState → MachineInput → Type 0
 OtherWell s i = goes_well (other_awaits s) (other_awaits (next_state s (other_client s i))) (row_out (other_client s i)).pass i ≡ true
 
-other_well : (s : OtherClientState) (i : Input) → OtherWell s i
+other_well : (s : OtherClientState) (i : MachineInput) → OtherWell s i
 other_well other.Trying i = each_input (OtherWell other.Trying) refl refl refl refl refl refl refl refl refl refl refl refl refl refl i
 other_well other.Proceeding i = each_input (OtherWell other.Proceeding) refl refl refl refl refl refl refl refl refl refl refl refl refl refl i
 other_well other.Completed i = each_input (OtherWell other.Completed) refl refl refl refl refl refl refl refl refl refl refl refl refl refl i
 other_well other.Terminated i = each_input (OtherWell other.Terminated) refl refl refl refl refl refl refl refl refl refl refl refl refl refl i
 
-state_is : {S : Type 0} (o : Option (Row S)) (now : ℕ) (m : Machine S) → (row_machine o now m).state ≡ next_state m.state o
+state_is : {S : Type 0} (o : Option (MachineRow S)) (now : ℕ) (m : Machine S) → (row_machine o now m).state ≡ next_state m.state o
 state_is None now m = refl
 state_is (Some r) now m = refl
 
 -- the input that an event is to a transaction
-abbrev input_to : TxEvent → ℕ → ClientTransaction → Input
+abbrev input_to : TxEvent → ℕ → ClientTransaction → MachineInput
 input_to ev now (InviteClient m) = input_of ev now m.timers
 input_to ev now (OtherClient m) = input_of ev now m.timers
 

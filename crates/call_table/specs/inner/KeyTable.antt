@@ -6,7 +6,7 @@ use Rattle.std.specs.Hash.FoldHasher.{initial, write, finish}
 use Rattle.std.specs.Option.{option_or}
 use Rattle.std.specs.Ordering.{nat_cmp}
 use Rattle.call_table.specs.declared.key_table.KeyTable.{KeyTable}
-use Rattle.call_table.specs.declared.key_table.Listed.{Listed}
+use Rattle.call_table.specs.declared.key_table.ListedKey.{ListedKey}
 
 -- the kit's hash of a key
 abbrev pub digest_of : List ℕ → ℕ
@@ -18,7 +18,7 @@ module _ {A : Type 0} where
   number_among keys key = get_by (λ (other : Vec ℕ A). slice_cmp nat_cmp key other.items) keys
 
   -- the number of what is listed, where it is this key
-  abbrev pub number_where : List ℕ → Option (Listed A) → Option ℕ
+  abbrev pub number_where : List ℕ → Option (ListedKey A) → Option ℕ
   number_where key None = None
   number_where key (Some listed) = if pointwise nat_eq listed.key.items key then Some listed.number else None
 

@@ -2,11 +2,11 @@
 use denote.Param.Send.{IsSend, IsSync}
 use Rattle.daemon_parts.proofs.counts.Counts.TheSendSync as made_counts
 use Rattle.daemon_parts.proofs.marks.Marks.TheSendSync as made_marks
-use Rattle.daemon_parts.proofs.places.Places.TheSendSync as made_places
+use Rattle.daemon_parts.proofs.places.CallQuota.TheSendSync as made_places
 use Rattle.daemon_parts.proofs.socket.Socket.TheSendSync as made_socket
 use Rattle.daemon_parts.specs.contracts.counts.Counts as counts
 use Rattle.daemon_parts.specs.contracts.marks.Marks as marks
-use Rattle.daemon_parts.specs.contracts.places.Places as places
+use Rattle.daemon_parts.specs.contracts.places.CallQuota as places
 use Rattle.daemon_parts.specs.contracts.socket.Socket as socket
 
 pub counts_sync : IsSync counts.the_field.row

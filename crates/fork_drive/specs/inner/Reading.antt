@@ -6,8 +6,8 @@ use Rattle.sip_lex.specs.Cut.{is}
 use Rattle.fork_model.specs.Event.{Event}
 use Rattle.fork_text.specs.LineByLine.{lines_from}
 use Rattle.fork_text.specs.Pieces.{is_empty}
-use Rattle.fork_program.specs.declared.script.Phase.{Phase}
-use Rattle.fork_program.specs.declared.script.Phase.TheVariants.{AtKind, AtPrefer, AtDepth, AtTargets, AtEvents, AtAnswer}
+use Rattle.fork_program.specs.declared.script.ScriptPhase.{ScriptPhase}
+use Rattle.fork_program.specs.declared.script.ScriptPhase.TheVariants.{AtKind, AtPrefer, AtDepth, AtTargets, AtEvents, AtAnswer}
 use Rattle.fork_program.specs.Script as plain
 use Rattle.fork_program.specs.Script.{has_kind}
 use Rattle.fork_drive.specs.Workers.{Workers, most_workers}
@@ -22,7 +22,7 @@ abbrev pub no_draft : Draft
 no_draft = record { last = plain.no_draft; before = [] }
 
 -- whether a worker has begun: before the first there are no events
-abbrev pub is_at_work : Phase → Bool
+abbrev pub is_at_work : ScriptPhase → Bool
 is_at_work AtKind = false
 is_at_work AtPrefer = false
 is_at_work AtDepth = false

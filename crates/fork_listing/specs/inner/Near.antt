@@ -2,17 +2,17 @@
 use Rattle.std.specs.Prelude.{◌≡◌, ◌≤◌, ◌<◌, ◌⊎◌, ◌↔◌, ℕ, Bool, true, List, Option, Some, None, option_and_then, not}
 use Rattle.std.specs.Ordering.{nat_cmp}
 use Rattle.std.specs.BTreeSet.{BTreeSet, contains, Updates}
-use Rattle.fork_listing.specs.declared.line.Target.{Target}
+use Rattle.fork_listing.specs.declared.line.ListedTarget.{ListedTarget}
 use Rattle.fork_listing.specs.Targets.{arrival_of, ended_at, IsParent, FollowsTarget, line_before, IsEarlier, HasDepth}
 
-abbrev pub FallsTo : Option Target → Target → Type 0
+abbrev pub FallsTo : Option ListedTarget → ListedTarget → Type 0
 FallsTo None target = Unit {0}
 FallsTo (Some before) target = (before.parent ≡ target.parent → ⊥) ⊎ (target.q ≤ before.q)
 
-abbrev pub IsShallow : List Target → Option ℕ → ℕ → Type 0
+abbrev pub IsShallow : List ListedTarget → Option ℕ → ℕ → Type 0
 IsShallow targets parent most = (deep : ℕ) × HasDepth targets parent deep × (deep ≤ most)
 
-abbrev pub IsNear : ℕ → List Target → ℕ → Target → Type 0
+abbrev pub IsNear : ℕ → List ListedTarget → ℕ → ListedTarget → Type 0
 IsNear most_depth targets n target =
     (target.number ≡ n)
     × IsParent targets n target.parent
@@ -27,5 +27,5 @@ Notes old new None fresh = (new ≡ old) × (fresh ≡ true)
 Notes old new (Some arrival) fresh = (fresh ≡ not (contains nat_cmp old arrival)) × Updates nat_cmp old new arrival true
 
 -- the set has the arrivals of the lines before a place
-abbrev pub Holds : BTreeSet ℕ → List Target → ℕ → Type 0
+abbrev pub Holds : BTreeSet ℕ → List ListedTarget → ℕ → Type 0
 Holds set targets n = (at : ℕ) → (contains nat_cmp set at ≡ true) ↔ ((m : ℕ) × (m < n) × (ended_at targets m ≡ Some at))

@@ -5,7 +5,7 @@ use Rattle.std.specs.Option.{option_map}
 use Rattle.std.specs.Ordering.{nat_cmp}
 use Rattle.fork_model.specs.Rank.{Score}
 use Rattle.fork_tree.specs.declared.summary.BestRef.{BestRef}
-use Rattle.fork_listing.specs.declared.line.Target.{Target}
+use Rattle.fork_listing.specs.declared.line.ListedTarget.{ListedTarget}
 use Rattle.fork_listing.specs.declared.line.Ranked.{Ranked}
 use Rattle.fork_listing.specs.declared.line.Final.{Final}
 use Rattle.fork_listing.specs.Ranks.{score_in, score_at}
@@ -14,12 +14,12 @@ abbrev pub ranked_as : ℕ → Score → Ranked
 ranked_as n score = record { status = score.status; number = n; arrival = score.arrival }
 
 -- the line of a branch's stored answer
-abbrev pub ranked_in : Target → Option Ranked
+abbrev pub ranked_in : ListedTarget → Option Ranked
 ranked_in target = option_map (ranked_as target.number) (score_in target.end)
 
 -- each line has its number
-abbrev pub AreNumbered : List Target → Type 0
-AreNumbered targets = (n : ℕ) (target : Target) → slice_get targets n ≡ Some target → target.number ≡ n
+abbrev pub AreNumbered : List ListedTarget → Type 0
+AreNumbered targets = (n : ℕ) (target : ListedTarget) → slice_get targets n ≡ Some target → target.number ≡ n
 
 -- the line of the answer that goes up, where this is the first
 abbrev pub final_of_best : Option BestRef → Final
@@ -32,5 +32,5 @@ abbrev pub number_in : Ranked → ℕ
 number_in ranked = ranked.number
 
 -- a stored answer is that of a branch with one of these numbers
-abbrev pub IsCounted : List Target → BTreeSet ℕ → ℕ → Type 0
+abbrev pub IsCounted : List ListedTarget → BTreeSet ℕ → ℕ → Type 0
 IsCounted targets numbers n = (score : Score) → score_at targets n ≡ Some score → IsTrue (contains nat_cmp numbers n)

@@ -5,7 +5,7 @@ use Rattle.std.specs.List.{flat_map}
 use Rattle.fork_model.specs.Table.{Rules}
 use Rattle.fork_text.specs.RuleLines.{ended}
 use Rattle.fork_listing.specs.declared.line.Version.TheVariants.{Third}
-use Rattle.fork_listing.specs.declared.line.Target.{Target}
+use Rattle.fork_listing.specs.declared.line.ListedTarget.{ListedTarget}
 use Rattle.fork_listing.specs.declared.line.Ranked.{Ranked}
 use Rattle.fork_listing.specs.Line.{ForkLine, PreferLine, DepthLine, TargetLine, RankLine, line_text}
 
@@ -15,7 +15,7 @@ head_text count rules =
     ended (line_text (ForkLine Third count))
     ++ (ended (line_text (PreferLine rules.preferred)) ++ ended (line_text (DepthLine rules.depth)))
 
-abbrev pub targets_text : List Target → List ℕ
+abbrev pub targets_text : List ListedTarget → List ℕ
 targets_text targets = flat_map (λ target. ended (line_text (TargetLine target))) targets
 
 abbrev pub ranks_text : List Ranked → List ℕ

@@ -7,8 +7,8 @@ use Rattle.fork_model.specs.Table.{Rules}
 use Rattle.fork_text.specs.LineByLine as texts
 use Rattle.fork_text.specs.RuleLines.{usual_rules}
 use Rattle.fork_text.proofs.laws.Lines.{all_append, all_front, drafted_append}
-use Rattle.fork_program.specs.declared.script.Phase.{Phase}
-use Rattle.fork_program.specs.declared.script.Phase.TheVariants.{AtKind, AtPrefer, AtDepth, AtTargets, AtEvents, AtAnswer}
+use Rattle.fork_program.specs.declared.script.ScriptPhase.{ScriptPhase}
+use Rattle.fork_program.specs.declared.script.ScriptPhase.TheVariants.{AtKind, AtPrefer, AtDepth, AtTargets, AtEvents, AtAnswer}
 use Rattle.fork_program.specs.Script.{no_script, phase_behind, phase_after, with_line}
 use Rattle.fork_program.specs.Malformed.{Begins}
 use Rattle.fork_program.proofs.laws.LastAnswer.{last_changed-snoc}
@@ -19,7 +19,7 @@ drafted_lines = texts.drafted_lines drafted_line
 
 -- ---- the lines of a spelled script may come
 
-abbrev pub in_phase : Phase → Script → Draft
+abbrev pub in_phase : ScriptPhase → Script → Draft
 in_phase phase script = record { phase = phase; script = script }
 
 abbrev pub with_events : Script → List Event → Script
@@ -60,12 +60,12 @@ details_drafted script events n answer (ChallengeDetail proxy value ∷ details)
 
 -- these lines lead to the script
 pub record Reached (draft : Draft) (lines : List Line) (script : Script) : Type 0 where
-  pub phase : Phase
+  pub phase : ScriptPhase
   pub due : drafted_lines draft lines ≡ Some (in_phase phase script)
   pub whole : has_kind phase ≡ true
 
 -- an event with what stands behind it
-event_line : (phase : Phase) (script : Script) (event : Event) → has_kind phase ≡ true
+event_line : (phase : ScriptPhase) (script : Script) (event : Event) → has_kind phase ≡ true
     → drafted_line (in_phase phase script) (EventLine event) ≡ Some (in_phase (phase_behind event) (with_events script (script.events ++ event ∷ [])))
 event_line phase script event h = grind arith
 
@@ -84,11 +84,11 @@ behind_drafted script event details h may = grind (arith, common_steps, details_
 abbrev pub MayStand : Told → Type 0
 MayStand told = MayStandBehind told.event told.details
 
-told_drafted : (phase : Phase) (script : Script) (told : Told) → has_kind phase ≡ true → IsLine (EventLine told.event) → MayStand told
+told_drafted : (phase : ScriptPhase) (script : Script) (told : Told) → has_kind phase ≡ true → IsLine (EventLine told.event) → MayStand told
     → drafted_lines (in_phase phase script) (told_lines told) ≡ Some (in_phase (phase_behind told.event) (with_events script (script.events ++ said told ∷ [])))
 told_drafted phase script told whole h may = grind (arith, common_steps, option_and_then, event_line, behind_drafted)
 
-pub history_drafted : (phase : Phase) (script : Script) (history : List Told) → has_kind phase ≡ true
+pub history_drafted : (phase : ScriptPhase) (script : Script) (history : List Told) → has_kind phase ≡ true
     → AllByRecursion IsLine (flat_map told_lines history) → AllByRecursion MayStand history
     → Reached (in_phase phase script) (flat_map told_lines history) (with_events script (script.events ++ map said history))
 history_drafted phase script [] whole lines may = grind (arith, common_steps, append-nil)
@@ -119,10 +119,10 @@ abbrev filled : Kind → Rules → List Target → List Told → Script
 filled kind rules targets history = record { kind = kind; rules = rules; targets = targets; events = map said history }
 
 -- which phases take a target
-abbrev TakesTargets : Phase → Type 0
+abbrev TakesTargets : ScriptPhase → Type 0
 TakesTargets phase = (q : ℕ) (name : List ℕ) → phase_after phase (TargetLine q name) ≡ Some AtTargets
 
-body_drafted : (phase : Phase) (kind : Kind) (rules : Rules) (targets : List Target) (history : List Told) → has_kind phase ≡ true → TakesTargets phase
+body_drafted : (phase : ScriptPhase) (kind : Kind) (rules : Rules) (targets : List Target) (history : List Told) → has_kind phase ≡ true → TakesTargets phase
     → AllByRecursion IsLine (flat_map told_lines history) → AllByRecursion MayStand history
     → Reached (in_phase phase (head kind rules)) (body_of targets history) (filled kind rules targets history)
 body_drafted phase kind rules [] history whole takes lines may = history_drafted phase (head kind rules) history whole lines may
@@ -160,17 +160,17 @@ script_drafted s h = script_drafted_as s.kind s.prefer s.depth s.targets s.histo
 -- ---- lines that may come from the first to the last are those of a spelled script
 
 -- what may stand at the front in this phase
-abbrev pub MayOpen : Phase → List Detail → Type 0
+abbrev pub MayOpen : ScriptPhase → List Detail → Type 0
 MayOpen AtAnswer details = Unit {0}
 MayOpen _ details = details ≡ []
 
-may_open_none : (phase : Phase) → MayOpen phase []
+may_open_none : (phase : ScriptPhase) → MayOpen phase []
 may_open_none phase = grind arith
 
 may_stand : (event : Event) (details : List Detail) → MayOpen (phase_behind event) details → MayStandBehind event details
 may_stand event details h = grind arith
 
-pub record HistoryFound (phase : Phase) (lines : List Line) : Type 0 where
+pub record HistoryFound (phase : ScriptPhase) (lines : List Line) : Type 0 where
   pub details : List Detail
   pub history : List Told
   pub spelled : map detail_line details ++ flat_map told_lines history ≡ lines
@@ -178,7 +178,7 @@ pub record HistoryFound (phase : Phase) (lines : List Line) : Type 0 where
   pub behind : AllByRecursion MayStand history
 
 -- the targets have been read
-abbrev pub IsLate : Phase → Type 0
+abbrev pub IsLate : ScriptPhase → Type 0
 IsLate AtEvents = Unit {0}
 IsLate AtAnswer = Unit {0}
 IsLate _ = ⊥
@@ -186,10 +186,10 @@ IsLate _ = ⊥
 behind_is_late : (event : Event) → IsLate (phase_behind event)
 behind_is_late event = grind arith
 
-none_found : (phase : Phase) → HistoryFound phase []
+none_found : (phase : ScriptPhase) → HistoryFound phase []
 none_found phase = record { details = []; history = []; spelled = refl; open_ = may_open_none phase; behind = tt }
 
-event_found : (phase : Phase) (event : Event) (lines : List Line) → HistoryFound (phase_behind event) lines → HistoryFound phase (EventLine event ∷ lines)
+event_found : (phase : ScriptPhase) (event : Event) (lines : List Line) → HistoryFound (phase_behind event) lines → HistoryFound phase (EventLine event ∷ lines)
 event_found phase event lines more = record {
   details = [];
   history = record { event = event; details = more.details } ∷ more.history;
@@ -207,7 +207,7 @@ detail_found detail lines more = record {
   behind = more.behind;
 }
 
-pub history_found : (phase : Phase) (script : Script) (lines : List Line) (next : Draft) → IsLate phase → drafted_lines (in_phase phase script) lines ≡ Some next → HistoryFound phase lines
+pub history_found : (phase : ScriptPhase) (script : Script) (lines : List Line) (next : Draft) → IsLate phase → drafted_lines (in_phase phase script) lines ≡ Some next → HistoryFound phase lines
 history_found AtKind script lines next late due = absurd late
 history_found AtPrefer script lines next late due = absurd late
 history_found AtDepth script lines next late due = absurd late
@@ -343,10 +343,10 @@ record Completed (draft : Draft) : Type 0 where
   due : drafted_lines draft more ≡ Some next
   whole : has_kind next.phase ≡ true
 
-as_it_is : (phase : Phase) (script : Script) → has_kind phase ≡ true → Completed (in_phase phase script)
+as_it_is : (phase : ScriptPhase) (script : Script) → has_kind phase ≡ true → Completed (in_phase phase script)
 as_it_is phase script whole = record { more = []; right = tt; next = in_phase phase script; due = refl; whole = whole }
 
-completed_by : (phase : Phase) (script : Script) → Completed (in_phase phase script)
+completed_by : (phase : ScriptPhase) (script : Script) → Completed (in_phase phase script)
 completed_by AtKind script = record {
   more = KindLine Invite ∷ [];
   right = (tt, tt);

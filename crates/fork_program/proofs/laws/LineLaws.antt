@@ -6,14 +6,14 @@ use Rattle.sip_lex.specs.Cut.{behind}
 use Rattle.sip_lex.proofs.laws.Cuts.{cut_joins}
 use Rattle.std.proofs.lemmas.Option.{cond_some}
 use Rattle.fork_text.proofs.laws.Field.{found_map, number_before_found, number_from_found}
-use Rattle.fork_program.specs.declared.line.Word.{Word}
-use Rattle.fork_program.specs.declared.line.Word.TheVariants as word
+use Rattle.fork_program.specs.declared.line.ScriptWord.{ScriptWord}
+use Rattle.fork_program.specs.declared.line.ScriptWord.TheVariants as word
 use Rattle.fork_text.specs.Preferred.{read_preferred}
 use Rattle.fork_text.specs.Field.{number_before, number_from}
 use Rattle.fork_program.specs.Reading.{word_of, read_kind, read_asker, read_challenge, read_rest, read_alone, read_worded, read_cut}
 use Rattle.sip_lex.proofs.laws.Numbers.{number_spelled}
 
-abbrev word_text : Word → List ℕ
+abbrev word_text : ScriptWord → List ℕ
 word_text word.Kind = codes "kind"
 word_text word.Prefer = codes "prefer"
 word_text word.Depth = codes "depth"
@@ -29,10 +29,10 @@ word_text word.Contact = codes "contact"
 word_text word.Other = codes "other"
 word_text word.Challenge = codes "challenge"
 
-word_step : (b : Bool) (text : List ℕ) (w v : Word) (r : Option Word) → (b ≡ true → text ≡ word_text w) → (r ≡ Some v → text ≡ word_text v) → cond b (Some w) r ≡ Some v → text ≡ word_text v
+word_step : (b : Bool) (text : List ℕ) (w v : ScriptWord) (r : Option ScriptWord) → (b ≡ true → text ≡ word_text w) → (r ≡ Some v → text ≡ word_text v) → cond b (Some w) r ≡ Some v → text ≡ word_text v
 word_step b text w v r same others e = grind arith
 
-word_found : (text : List ℕ) (v : Word) → word_of text ≡ Some v → text ≡ word_text v
+word_found : (text : List ℕ) (v : ScriptWord) → word_of text ≡ Some v → text ≡ word_text v
 word_found text v = grind (arith, common_steps, word_step, bytes_eq-Decides)
 
 kind_step : (b : Bool) (text : List ℕ) (k v : Kind) (r : Option Kind) → (b ≡ true → text ≡ kind_text k) → (r ≡ Some v → text ≡ kind_text v) → cond b (Some k) r ≡ Some v → text ≡ kind_text v
@@ -60,7 +60,7 @@ challenge_found : (text : List ℕ) (line : Line) → read_challenge text ≡ So
 challenge_found text line e = grind (arith, common_steps, cut_joins 32 text, found_then, cond_some, asker_found)
 
 -- behind a word and its space
-rest_found : (w : Word) (rest : List ℕ) (line : Line) → read_rest w rest ≡ Some line → Found (word_text w ++ 32 ∷ rest) line
+rest_found : (w : ScriptWord) (rest : List ℕ) (line : Line) → read_rest w rest ≡ Some line → Found (word_text w ++ 32 ∷ rest) line
 rest_found word.Kind rest line e = grind (arith, common_steps, found_map, kind_found)
 rest_found word.Prefer rest line e =
     found_map PreferLine (read_preferred rest) line (Found (codes "prefer" ++ 32 ∷ rest))
@@ -90,10 +90,10 @@ rest_found word.Contact rest line e = grind (arith, common_steps, found_map, nam
 rest_found word.Other rest line e = grind (arith, common_steps, found_map, texted_found)
 rest_found word.Challenge rest line e = challenge_found rest line e
 
-alone_found : (w : Word) (line : Line) → read_alone w ≡ Some line → Found (word_text w ++ []) line
+alone_found : (w : ScriptWord) (line : Line) → read_alone w ≡ Some line → Found (word_text w ++ []) line
 alone_found w line e = grind arith
 
-worded_found : (w : Word) (rest : Option (List ℕ)) (line : Line) → read_worded w rest ≡ Some line → Found (word_text w ++ behind 32 rest) line
+worded_found : (w : ScriptWord) (rest : Option (List ℕ)) (line : Line) → read_worded w rest ≡ Some line → Found (word_text w ++ behind 32 rest) line
 worded_found w None line e = alone_found w line e
 worded_found w (Some rest) line e = rest_found w rest line e
 

@@ -1,11 +1,11 @@
 -- The line that a line of the program stands for.
 use Rattle.fork_model.specs.Event.{Ring, Answer, Timeout, Fault, TimerC, GiveUp, Cancel}
 use Rattle.fork_rank.specs.KindView.{kind_of}
-use Rattle.fork_program.specs.declared.line.Line.{Line}
-use Rattle.fork_program.specs.declared.line.Line.TheVariants as line
+use Rattle.fork_program.specs.declared.line.ScriptLine.{ScriptLine}
+use Rattle.fork_program.specs.declared.line.ScriptLine.TheVariants as line
 use Rattle.fork_program.specs.Line as spec
 
-abbrev pub line_of : Line → spec.Line
+abbrev pub line_of : ScriptLine → spec.Line
 line_of (line.Kind kind) = spec.KindLine (kind_of kind)
 line_of (line.Prefer preferred) = spec.PreferLine preferred
 line_of (line.Depth depth) = spec.DepthLine depth.steps

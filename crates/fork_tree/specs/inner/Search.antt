@@ -3,7 +3,7 @@
 use Rattle.std.specs.Prelude.{◌≡◌, ◌⊎◌, ◌<◌, ◌≤◌, ℕ, length, Bool, true, false, List, [], ◌∷◌, Option, Some, None, slice_get}
 use Rattle.fork_model.specs.Table.{Row, is_idle, most_targets}
 use Rattle.fork_model.specs.Waiting.{may_start}
-use Rattle.fork_tree.specs.declared.place.Place.{Place}
+use Rattle.fork_tree.specs.declared.place.NodePlace.{NodePlace}
 use Rattle.fork_tree.specs.States.{plain_state, has_ended}
 use Rattle.fork_tree.specs.Rows.{Cell, Entry, find}
 use Rattle.fork_tree.specs.inner.Rows.{state_in}
@@ -15,7 +15,7 @@ use Rattle.fork_tree.specs.inner.Below.{under}
 use Rattle.fork_tree.specs.Search.{IsOnWay}
 
 -- the places lead to the nodes, whatever is kept of those
-pub record IsShape (all : List Place) (root : List Entry) : Type 0 where
+pub record IsShape (all : List NodePlace) (root : List Entry) : Type 0 where
   pub older : AreOlder all
   pub placed : IsPlaced all root
   pub listed : AreListed all root root

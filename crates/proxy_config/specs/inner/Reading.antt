@@ -5,15 +5,15 @@ use Rattle.std.specs.List.{slice_split}
 use Rattle.sip_lex.specs.Cut.{is}
 use Rattle.fork_text.specs.LineByLine.{lines_from}
 use Rattle.fork_text.specs.Pieces.{is_empty}
-use Rattle.proxy_config.specs.declared.draft.Phase.{Phase}
-use Rattle.proxy_config.specs.declared.draft.Phase.TheVariants.{AtOwn, AtInstance, AtDomain, AtPrefer, AtDepth, AtLocations}
+use Rattle.proxy_config.specs.declared.draft.SetupPhase.{SetupPhase}
+use Rattle.proxy_config.specs.declared.draft.SetupPhase.TheVariants.{AtOwn, AtInstance, AtDomain, AtPrefer, AtDepth, AtLocations}
 use Rattle.proxy_config.specs.Line.{Line, OwnLine, InstanceLine, DomainLine, PreferLine, DepthLine, LocationLine}
 use Rattle.proxy_config.specs.LineReading.{read_line}
 use Rattle.proxy_config.specs.Parts.{no_setup, with_line}
 use Rattle.proxy_config.specs.Setup.{Setup, IsKept}
 
 -- which line may come in which phase, and the phase behind it
-abbrev pub phase_after : Phase → Line → Option Phase
+abbrev pub phase_after : SetupPhase → Line → Option SetupPhase
 phase_after AtOwn (OwnLine own) = Some AtInstance
 phase_after AtInstance (InstanceLine instance) = Some AtDomain
 phase_after AtDomain (DomainLine host) = Some AtPrefer
@@ -27,13 +27,13 @@ phase_after _ _ = None
 
 -- the lines read so far
 pub record Draft : Type 0 where
-  pub phase : Phase
+  pub phase : SetupPhase
   pub setup : Setup
 
 abbrev pub no_draft : Draft
 no_draft = record { phase = AtOwn; setup = no_setup }
 
-abbrev pub in_phase : Setup → Phase → Draft
+abbrev pub in_phase : Setup → SetupPhase → Draft
 in_phase setup phase = record { phase = phase; setup = setup }
 
 abbrev pub drafted_line : Draft → Line → Option Draft
@@ -45,7 +45,7 @@ abbrev pub drafted : Draft → List ℕ → Option Draft
 drafted draft line = option_and_then (drafted_line draft) (read_line line)
 
 -- the domain was read, and so all that has to be there
-abbrev pub is_whole : Phase → Bool
+abbrev pub is_whole : SetupPhase → Bool
 is_whole AtOwn = false
 is_whole AtInstance = false
 is_whole AtDomain = false

@@ -5,8 +5,8 @@ use Rattle.std.proofs.lemmas.Bool.{cond-false, cond-true}
 use Rattle.std.proofs.lemmas.List.{drop-drop, length-map}
 use Rattle.std.specs.List.{flat_map, onto_first}
 use Rattle.sip_lex.specs.Bytes.{trim}
-use Rattle.sip_lex.specs.declared.sheltered.Place.{Place}
-use Rattle.sip_lex.specs.declared.sheltered.Place.TheVariants.{Plain}
+use Rattle.sip_lex.specs.declared.sheltered.ShelterState.{ShelterState}
+use Rattle.sip_lex.specs.declared.sheltered.ShelterState.TheVariants.{Plain}
 use Rattle.sip_lex.specs.declared.sheltered.Shelter.{Shelter}
 use Rattle.sip_lex.specs.declared.sheltered.Shelter.TheVariants.{QuotesAndAngles}
 use Rattle.sip_lex.specs.Outside.{pieces_from, pieces_outside, pieces_outside_behind}
@@ -30,7 +30,7 @@ Cut = List ℕ × Option (List ℕ)
 abbrev of_cut : Shelter → ℕ → Cut → List (List ℕ)
 of_cut shelter mark c = c.0 ∷ pieces_outside_behind shelter mark c.1
 
-pieces_from-cut : (shelter : Shelter) (mark : ℕ) (place : Place) (bs : List ℕ) → pieces_from shelter mark place bs ≡ of_cut shelter mark (cut_outside shelter mark place bs)
+pieces_from-cut : (shelter : Shelter) (mark : ℕ) (place : ShelterState) (bs : List ℕ) → pieces_from shelter mark place bs ≡ of_cut shelter mark (cut_outside shelter mark place bs)
 pieces_from-cut shelter mark place [] = refl
 pieces_from-cut shelter mark place (b ∷ bs) =
     let later = place_after shelter place b in

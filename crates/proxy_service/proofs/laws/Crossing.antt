@@ -12,17 +12,17 @@ use Rattle.fork_call.specs.contracts.call.Call.{the_row as call_row}
 use Rattle.call_table.proofs.laws.Crossing.{shelf_sync}
 use Rattle.call_table.specs.contracts.shelf.Shelf as shelf
 use Rattle.daemon_parts.proofs.laws.Crossing.{counts_sync, marks_sync}
-use Rattle.daemon_parts.proofs.places.Places.TheSendSync as places
+use Rattle.daemon_parts.proofs.places.CallQuota.TheSendSync as places
 use Rattle.fork_clock.proofs.laws.Crossing.{schedule_sync}
 use Rattle.proxy_config.proofs.laws.Crossing as setup
 use Rattle.proxy_config.specs.contracts.setup.Setup.{the_row as setup_row}
-use Rattle.proxy_service.proofs.terms.Terms.TheSendSync as terms
+use Rattle.proxy_service.proofs.terms.RunSettings.TheSendSync as terms
 use Rattle.proxy_service.proofs.lifetime.Lifetime.TheSendSync as lifetime
 use Rattle.proxy_service.proofs.notes.NoteTables.TheSendSync as notes
 use Rattle.proxy_service.proofs.queue.JournalQueue.TheSendSync as queue
 use Rattle.proxy_service.proofs.refusals.Refusals.TheSendSync as refusals
 use Rattle.proxy_service.proofs.walk.Walk.TheSendSync as walk
-use Rattle.proxy_service.specs.contracts.calls.Calls as calls
+use Rattle.proxy_service.specs.contracts.calls.ServiceCalls as calls
 use Rattle.proxy_service.specs.contracts.quota.Quota as quota
 use Rattle.proxy_service.specs.contracts.service.Service as service
 

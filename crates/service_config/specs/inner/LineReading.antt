@@ -11,8 +11,8 @@ use Rattle.proxy_config.specs.LineReading as setup_line
 use Rattle.service_config.specs.Line.{Line, SetupLine, RingLine, RealmLine, ExpiresLine, StrangersLine, TrustLine, GatewayLine, LocationLine, CommentLine, are_expirations, is_no_lf, is_realm, most_expiration, most_ring, says_nothing}
 use Rattle.service_config.specs.Net.{address_number, block}
 use Rattle.service_config.specs.declared.expirations.Expirations.{Expirations}
-use Rattle.service_config.specs.declared.line.Word.{Word}
-use Rattle.service_config.specs.declared.line.Word.TheVariants as word
+use Rattle.service_config.specs.declared.line.SettingsWord.{SettingsWord}
+use Rattle.service_config.specs.declared.line.SettingsWord.TheVariants as word
 use Rattle.service_config.specs.declared.net.Net.{Net}
 
 -- ---- realm
@@ -76,7 +76,7 @@ location_in _ = None
 
 -- ---- a line
 
-abbrev pub word_of : List ℕ → Word
+abbrev pub word_of : List ℕ → SettingsWord
 word_of text =
     if bytes_eq text (codes "ring") then word.Ring
     else (if bytes_eq text (codes "realm") then word.Realm
@@ -86,7 +86,7 @@ word_of text =
     else word.OfSetup))))
 
 -- what stands behind one of the words of a service and a space
-abbrev pub read_own : List ℕ → Word → Option Line
+abbrev pub read_own : List ℕ → SettingsWord → Option Line
 read_own rest word.Ring = option_map RingLine (number_from 1 most_ring rest)
 read_own rest word.Realm = realm_cut (cut (is 32) rest)
 read_own rest word.Expires = option_map ExpiresLine (read_expirations rest)
@@ -95,7 +95,7 @@ read_own rest word.Gateway = option_map gateway_of (number_before most_q rest)
 read_own rest word.OfSetup = None
 
 -- the whole text, and what stands behind its word and a space
-abbrev pub read_worded : List ℕ → List ℕ → Word → Option Line
+abbrev pub read_worded : List ℕ → List ℕ → SettingsWord → Option Line
 read_worded text rest word.OfSetup = option_and_then of_setup (setup_line.read_line text)
 read_worded text rest word.Ring = read_own rest word.Ring
 read_worded text rest word.Realm = read_own rest word.Realm

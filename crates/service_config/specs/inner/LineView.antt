@@ -3,14 +3,14 @@ use Rattle.std.specs.Prelude.{◌≡◌, ℕ, List, Option, Some, option_and_the
 use Rattle.std.specs.Borrow.{Bor}
 use Rattle.std.specs.Option.{option_map}
 use Rattle.proxy_config.specs.LineReading as setup_line
-use Rattle.service_config.specs.declared.line.Line.{Line}
-use Rattle.service_config.specs.declared.line.Line.TheVariants as line
-use Rattle.service_config.specs.declared.line.Reading.{Reading}
-use Rattle.service_config.specs.declared.line.Reading.TheVariants as reading
+use Rattle.service_config.specs.declared.line.SettingsLine.{SettingsLine}
+use Rattle.service_config.specs.declared.line.SettingsLine.TheVariants as line
+use Rattle.service_config.specs.declared.line.LineReading.{LineReading}
+use Rattle.service_config.specs.declared.line.LineReading.TheVariants as reading
 use Rattle.service_config.specs.Line as spec
 use Rattle.service_config.specs.inner.LineReading.{of_setup}
 
-abbrev pub line_of : Line → spec.Line
+abbrev pub line_of : SettingsLine → spec.Line
 line_of (line.Ring seconds) = spec.RingLine seconds
 line_of (line.Realm realm algorithms) = spec.RealmLine realm.now algorithms
 line_of (line.Expires times) = spec.ExpiresLine times
@@ -21,7 +21,7 @@ line_of (line.Location user q uri seconds) = spec.LocationLine user.now q uri.no
 line_of (line.Comment text) = spec.CommentLine text.now
 
 -- the line that was read of a text
-abbrev pub reading_in : List ℕ → Reading → Option spec.Line
+abbrev pub reading_in : List ℕ → LineReading → Option spec.Line
 reading_in text (reading.Own own) = Some (line_of own)
 reading_in text reading.OfSetup = option_and_then of_setup (setup_line.read_line text)
 

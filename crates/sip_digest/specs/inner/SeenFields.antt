@@ -2,15 +2,15 @@
 use Rattle.std.specs.Prelude.{ℕ, false, List, if◌then◌else◌}
 use Rattle.std.specs.Borrow.{Bor}
 use Rattle.std.specs.Option.{option_map}
-use Rattle.sip_digest.specs.declared.element.Written.{Written}
+use Rattle.sip_digest.specs.declared.element.WrittenValue.{WrittenValue}
 use Rattle.sip_digest.specs.declared.fields.Fields.{Fields}
 use Rattle.sip_digest.specs.AuthParam.{AuthParam, unescaped}
 use Rattle.sip_digest.specs.Credentials.{Named}
 
-abbrev pub seen_value : Written → List ℕ
+abbrev pub seen_value : WrittenValue → List ℕ
 seen_value w = if w.is_quoted then unescaped false w.text.now else w.text.now
 
-abbrev pub seen_param : Bor (List ℕ) × Written → AuthParam
+abbrev pub seen_param : Bor (List ℕ) × WrittenValue → AuthParam
 seen_param p = record { name = p.0.now; value = seen_value p.1 }
 
 abbrev pub seen_fields : Fields → Named

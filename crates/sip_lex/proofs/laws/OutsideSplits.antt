@@ -1,5 +1,5 @@
 -- The pieces of a text outside quotes and angle brackets, by cuts and by the whole text.
-use Rattle.sip_lex.proofs.Common.{◌≡◌, ℕ, false, eqb, List, [], ◌∷◌, Option, refl, ◌&&◌, flat_map, onto_first, AllByRecursion, cond_both, eqb-true, and_parts, Shelter, Place, Plain, LacksOutside, cut_outside, is_plain, place_after, arith}
+use Rattle.sip_lex.proofs.Common.{◌≡◌, ℕ, false, eqb, List, [], ◌∷◌, Option, refl, ◌&&◌, flat_map, onto_first, AllByRecursion, cond_both, eqb-true, and_parts, Shelter, ShelterState, Plain, LacksOutside, cut_outside, is_plain, place_after, arith}
 use Rattle.sip_lex.proofs.Common.{common_steps}
 use Rattle.sip_lex.specs.Outside.{pieces_from, pieces_outside, pieces_outside_behind}
 use Rattle.sip_lex.proofs.laws.Splits.{marked, onto}
@@ -14,7 +14,7 @@ pub onto-cut : (shelter : Shelter) (mark b : ℕ) (c : Cut) → onto_first b (of
 onto-cut shelter mark b c = grind arith
 
 -- the first piece, and the others
-pub pieces_from-cut : (shelter : Shelter) (mark : ℕ) (place : Place) (bs : List ℕ) → pieces_from shelter mark place bs ≡ (cut_outside shelter mark place bs).0 ∷ pieces_outside_behind shelter mark (cut_outside shelter mark place bs).1
+pub pieces_from-cut : (shelter : Shelter) (mark : ℕ) (place : ShelterState) (bs : List ℕ) → pieces_from shelter mark place bs ≡ (cut_outside shelter mark place bs).0 ∷ pieces_outside_behind shelter mark (cut_outside shelter mark place bs).1
 pieces_from-cut shelter mark place [] = refl
 pieces_from-cut shelter mark place (b ∷ bs) =
     let later = place_after shelter place b in
@@ -24,24 +24,24 @@ pub pieces_outside-cut : (shelter : Shelter) (mark : ℕ) (bs : List ℕ) → pi
 pieces_outside-cut shelter mark bs = pieces_from-cut shelter mark Plain bs
 
 -- the pieces, each behind a mark, are the text behind one
-pub pieces_from_join : (shelter : Shelter) (mark : ℕ) (place : Place) (bs : List ℕ) → flat_map (marked mark) (pieces_from shelter mark place bs) ≡ mark ∷ bs
+pub pieces_from_join : (shelter : Shelter) (mark : ℕ) (place : ShelterState) (bs : List ℕ) → flat_map (marked mark) (pieces_from shelter mark place bs) ≡ mark ∷ bs
 pieces_from_join shelter mark place [] = refl
 pieces_from_join shelter mark place (b ∷ bs) =
     let later = place_after shelter place b in
     grind (arith, common_steps, marked mark, pieces_from_join shelter mark Plain bs, pieces_from_join shelter mark later bs, cond_both, eqb-true, and_parts, onto)
 
 -- the first piece lacks the mark from this place on, the others do from plain text on
-abbrev LackFrom : Shelter → ℕ → Place → List (List ℕ) → Type 0
+abbrev LackFrom : Shelter → ℕ → ShelterState → List (List ℕ) → Type 0
 LackFrom shelter mark place [] = Unit {0}
 LackFrom shelter mark place (part ∷ parts) = LacksOutside shelter mark place part × AllByRecursion (λ piece. LacksOutside shelter mark Plain piece) parts
 
 all_lack : (shelter : Shelter) (mark : ℕ) (parts : List (List ℕ)) → LackFrom shelter mark Plain parts → AllByRecursion (λ piece. LacksOutside shelter mark Plain piece) parts
 all_lack shelter mark parts h = grind arith
 
-onto_lacks : (shelter : Shelter) (mark : ℕ) (place : Place) (b : ℕ) (parts : List (List ℕ)) → (is_plain place && eqb b mark) ≡ false → LackFrom shelter mark (place_after shelter place b) parts → LackFrom shelter mark place (onto_first b parts)
+onto_lacks : (shelter : Shelter) (mark : ℕ) (place : ShelterState) (b : ℕ) (parts : List (List ℕ)) → (is_plain place && eqb b mark) ≡ false → LackFrom shelter mark (place_after shelter place b) parts → LackFrom shelter mark place (onto_first b parts)
 onto_lacks shelter mark place b parts e h = grind arith
 
-lack_from : (shelter : Shelter) (mark : ℕ) (place : Place) (bs : List ℕ) → LackFrom shelter mark place (pieces_from shelter mark place bs)
+lack_from : (shelter : Shelter) (mark : ℕ) (place : ShelterState) (bs : List ℕ) → LackFrom shelter mark place (pieces_from shelter mark place bs)
 lack_from shelter mark place [] = (tt, tt)
 lack_from shelter mark place (b ∷ bs) =
     let later = place_after shelter place b in

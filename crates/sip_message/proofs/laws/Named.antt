@@ -4,7 +4,7 @@ use Rattle.sip_message.proofs.Common.{same_name, HeaderText, StartText, found, t
 use Rattle.std.specs.List.{AllByRecursion}
 use Rattle.std.specs.Str.{str_to_ascii_lowercase}
 use Rattle.std.proofs.lemmas.Slice.Eq.{bytes_eq-Decides}
-use Rattle.sip_text.specs.declared.needed.Needed.{Needed}
+use Rattle.sip_text.specs.declared.needed.MandatoryHeader.{MandatoryHeader}
 use Rattle.sip_text.specs.Fields.{missing}
 use Rattle.sip_text.specs.Name.{full_name, values_of}
 use Rattle.sip_text.proofs.laws.Good.{some_is}
@@ -102,7 +102,7 @@ tagged_keeps name tag (h ∷ hs) rest v e =
 
 -- ---- the five that a message needs
 
-abbrev pub Has : Needed → List HeaderText → Type 0
+abbrev pub Has : MandatoryHeader → List HeaderText → Type 0
 Has which hs = (v : List ℕ) × (value_of which hs ≡ Some v)
 
 pub record HasAll (hs : List HeaderText) : Type 0 where

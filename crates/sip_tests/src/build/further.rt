@@ -9,10 +9,7 @@ use crate::build::forwarding::VIA_LINE;
 use crate::bytes::is;
 use crate::holds::holds;
 use crate::messages::{OWN, may_pass, message_of, text_of};
-use sip_build::{
-    OwnStatus, first_timestamp, reason_lines, stripping_keeps_answers, stripping_keeps_timestamps,
-    write_forwarded, write_forwarded_cancel, write_generated,
-};
+use sip_build::{OwnStatus, first_timestamp, reason_lines, stripping_keeps_answers, stripping_keeps_timestamps, write_forwarded, write_forwarded_cancel, write_own_response};
 use sip_text::{HeaderLine, Message, StartLine};
 use sip_uri::SipUri;
 use sip_via::BranchName;
@@ -128,7 +125,7 @@ fn answered(
     requires { list_all is_header (view_lines further.now) ≡ true }
 {
     let mut out = Vec::new(alloc);
-    match write_generated(request, status, further, &mut out) {
+    match write_own_response(request, status, further, &mut out) {
         Ok(()) => Some(out),
         Err(_) => None,
     }

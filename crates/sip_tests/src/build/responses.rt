@@ -5,7 +5,7 @@ use crate::messages::{
     REQUEST, ROUTED, is_read_back, is_written_as, is_written_as_read, message_of, read, written,
 };
 use crate::rows::holds_in_row;
-use sip_build::{OwnStatus, gets_tag, own_tag};
+use sip_build::{OwnStatus, has_tag_added, own_tag};
 use sip_message::{generated, generated_is_message};
 use sip_text::Message;
 use std::alloc::Global;
@@ -256,7 +256,7 @@ fn an_extension_is_named(rt: HostRuntime) {
 /// Whether a response of that status to the request has a tag added.
 fn has_tag_added(alloc: Global, status: OwnStatus) -> Option<bool> {
     match message_of(alloc, &REQUEST) {
-        Some(request) => Some(gets_tag(status, &request)),
+        Some(request) => Some(has_tag_added(status, &request)),
         None => None,
     }
 }

@@ -13,10 +13,7 @@ use crate::messages::{REQUEST, ROUTED, message_of};
 use crate::rows::holds_in_row;
 use bumpalo::Bump;
 use fork_rank::Challenge;
-use sip_build::{
-    OwnStatus, ack_of_a_forwarded_request, cancel_of_a_forwarded_request, write_generated,
-    write_upward,
-};
+use sip_build::{OwnStatus, ack_of_a_forwarded_request, cancel_of_a_forwarded_request, write_forwarded_response, write_own_response};
 use sip_message::{
     forwarding_puts_the_own_via_first, own_via_is_read, upward, upward_loses_the_top_via,
 };
@@ -28,7 +25,7 @@ use std::alloc::Global;
 fn is_answered_so(alloc: Global, request: &Message<Global>, status: OwnStatus) -> bool {
     let mut out = Vec::new(alloc);
     begins(&mut out)
-        && write_generated(request, status, &[], &mut out).is_ok()
+        && write_own_response(request, status, &[], &mut out).is_ok()
         && is_behind(alloc, &out, answer_to(alloc, request, status))
 }
 
@@ -78,7 +75,7 @@ fn goes_so(
 {
     let mut out = Vec::new(alloc);
     begins(&mut out)
-        && write_upward(response, kept, challenges, &mut out).is_ok()
+        && write_forwarded_response(response, kept, challenges, &mut out).is_ok()
         && is_behind(
             alloc,
             &out,
@@ -146,7 +143,7 @@ fn is_the_last(alloc: Global, response: &Message<Global>) -> bool {
     let mut out = Vec::new(alloc);
     begins(&mut out)
         && matches!(
-            write_upward(response, None, &[], &mut out),
+            write_forwarded_response(response, None, &[], &mut out),
             Err(BuildFault::LastVia)
         )
         && is_as_it_began(&out)
@@ -179,8 +176,8 @@ fn are_refused(
     response: &Message<Global>,
     out: &mut Vec<u8, &Bump<Global>>,
 ) -> bool {
-    let answered = write_generated(request, OwnStatus::BadExtension, &[], out).is_ok();
-    let upwards = write_upward(response, None, &[], out).is_ok();
+    let answered = write_own_response(request, OwnStatus::BadExtension, &[], out).is_ok();
+    let upwards = write_forwarded_response(response, None, &[], out).is_ok();
     !answered && !upwards
 }
 

@@ -3,7 +3,7 @@ use crate::bytes::holds_of;
 use crate::holds::holds;
 use crate::messages::text_of;
 use crate::text::samples::{LINES, changed};
-use sip_text::{Message, Needed, ReadFault};
+use sip_text::{MandatoryHeader, Message, ReadFault};
 use std::alloc::Global;
 use std::process::Abort;
 
@@ -24,13 +24,13 @@ fn outcome(alloc: Global, text: &[u8]) -> &'static str {
 }
 
 /// The name of the fault of a field that is not there.
-fn missing(needed: Needed) -> &'static str {
+fn missing(needed: MandatoryHeader) -> &'static str {
     match needed {
-        Needed::Via => "no Via",
-        Needed::From => "no From",
-        Needed::To => "no To",
-        Needed::CallId => "no Call-ID",
-        Needed::CSeq => "no CSeq",
+        MandatoryHeader::Via => "no Via",
+        MandatoryHeader::From => "no From",
+        MandatoryHeader::To => "no To",
+        MandatoryHeader::CallId => "no Call-ID",
+        MandatoryHeader::CSeq => "no CSeq",
     }
 }
 

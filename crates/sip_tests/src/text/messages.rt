@@ -3,7 +3,7 @@ use crate::bytes::{has, holds_of, is};
 use crate::holds::holds;
 use crate::messages::{is_written_so, read, spells, text_of, text_with, written};
 use crate::text::samples::{LINES, busy, lines_with, message_changed};
-use sip_text::{Message, Needed, ReadFault, StartLine};
+use sip_text::{MandatoryHeader, Message, ReadFault, StartLine};
 use std::alloc::Global;
 use std::process::Abort;
 
@@ -178,7 +178,7 @@ fn joins_continued_lines(rt: HostRuntime) {
 fn names_needed_fields(rt: HostRuntime) {
     holds(
         &rt,
-        is(Needed::CallId.name(), b"call-id"),
+        is(MandatoryHeader::CallId.name(), b"call-id"),
         "the name of Call-ID",
     );
 }

@@ -3,10 +3,7 @@
 use crate::bytes::has;
 use crate::holds::holds;
 use crate::text::samples::message_changed;
-use sip_text::{
-    HeaderLine, HeaderLines, Message, Values, faults_are_of_the_text, round_trip, spelling_is_text,
-    text_is_message,
-};
+use sip_text::{HeaderLine, HeaderLines, HeaderValues, Message, faults_are_of_the_text, round_trip, spelling_is_text, text_is_message};
 use std::alloc::Global;
 use std::process::Abort;
 
@@ -20,7 +17,7 @@ fn laws() {
 
 /// Ends the test where these are not the lengths of header lines with one length of 4.
 fn are_the_lengths(rt: &impl Abort, headers: HeaderLines<'_>) {
-    let mut lengths = Values::new(b"L", headers);
+    let mut lengths = HeaderValues::new(b"L", headers);
     holds(
         rt,
         lengths.size_hint().0 <= 1,

@@ -3,14 +3,14 @@ use crate::bytes::is;
 use crate::holds::holds;
 use crate::messages::request_with_via;
 use sip_text::Message;
-use sip_via::{first_named, first_value};
+use sip_via::{first_header, first_value};
 use std::alloc::Global;
 
 const TWO_SUBJECTS: &[u8] = b"Via: SIP/2.0/UDP h\r\nSubject: a\r\nsubject: b";
 
 /// Whether the first line of a name that some have is found.
 fn finds_the_first(request: &Message<Global>) -> bool {
-    match first_named(request, b"subject") {
+    match first_header(request, b"subject") {
         Some(first) => is(first.value, b"a"),
         None => false,
     }
@@ -19,7 +19,7 @@ fn finds_the_first(request: &Message<Global>) -> bool {
 /// Whether the first lines and values of names are found, and none of a name that no line has.
 fn finds_each(request: &Message<Global>) -> bool {
     finds_the_first(request)
-        && first_named(request, b"route").is_none()
+        && first_header(request, b"route").is_none()
         && is(first_value(request, b"call-id"), b"c1")
         && first_value(request, b"route").is_empty()
 }

@@ -2,7 +2,7 @@
 use crate::holds::holds;
 use crate::messages::{OWN, REQUEST, is_written_as, message_of};
 use sip_message::strip_route;
-use sip_route::names_own;
+use sip_route::leads_to_proxy;
 use sip_text::Message;
 use std::alloc::Global;
 
@@ -98,12 +98,12 @@ fn leaves_a_request_without_a_route(rt: HostRuntime) {
 fn knows_its_own_route(rt: HostRuntime) {
     holds(
         &rt,
-        names_own(OWN, b"<sip:192.0.2.9:5060;lr>"),
+        leads_to_proxy(OWN, b"<sip:192.0.2.9:5060;lr>"),
         "a value with the address and port of the proxy",
     );
     holds(
         &rt,
-        !names_own(OWN, b"<sip:192.0.2.9:5070>"),
+        !leads_to_proxy(OWN, b"<sip:192.0.2.9:5070>"),
         "a value with another port",
     );
 }

@@ -1,7 +1,7 @@
 -- Whole texts, by the relation and by the function.
 use Rattle.sip_text.proofs.Common.{◌≡◌, ◌≢◌, ℕ, zero, suc, ◌≤◌, true, cond, eqb, leb, List, [], ◌∷◌, ◌++◌, length, map, take, drop, Option, Some, None, Result, Ok, Err, refl, sym, ap, subst, ◌∙◌, inl, inr, arith, length-take, ◌&&◌, flat_map}
 use Rattle.sip_text.proofs.Common.{join_with_byte, AllByRecursion, and_parts, cases_Bool, cond_both, cond-true, cond-false, eqb-true, leb-true, ne_eqb, take-append-drop, trim, IsLine, ended, line_at, pieces, line_at-again}
-use Rattle.sip_text.proofs.Common.{line_at-takes, BodyLength, Unsaid, Bytes, Wrong, Needed, cseq_fits, missing, said_length, AreHeaders, IsBody, IsFull, IsText, blank_lines, after_headers, after_line, after_start, head_of, if_present, Fault, BadCSeq}
+use Rattle.sip_text.proofs.Common.{line_at-takes, BodyLength, Unsaid, Bytes, Wrong, MandatoryHeader, cseq_fits, missing, said_length, AreHeaders, IsBody, IsFull, IsText, blank_lines, after_headers, after_line, after_start, head_of, if_present, Fault, BadCSeq}
 use Rattle.sip_text.proofs.Common.{BadHeader, BadLength, BadStart, Group, Headers, Lines, Short, closed, lines_at, skip, tail_of_group, tail_of_lines, HeaderText, MessageText, StartText, common_steps, rules}
 use Rattle.sip_text.specs.Message.{body_at, checked, read_at}
 use Rattle.sip_text.specs.Reading.{grouped, headers_at, start_of, tail_at}
@@ -124,7 +124,7 @@ body_found start hs rest (Bytes n) m e =
       | inr short ↦ bad (Short (head_of start hs)) m _ (sym (cond-false _ _ _ short) ∙ e)
     ]
 
-present_found : (o : Option Needed) (r : Read) (m : MessageText) → if_present o r ≡ Ok m → (o ≡ None) × (r ≡ Ok m)
+present_found : (o : Option MandatoryHeader) (r : Read) (m : MessageText) → if_present o r ≡ Ok m → (o ≡ None) × (r ≡ Ok m)
 present_found o r m e = grind arith
 
 pub checked_found : (start : StartText) (hs : List HeaderText) (rest : List ℕ) (m : MessageText) → checked start hs rest ≡ Ok m → Checked start hs rest m

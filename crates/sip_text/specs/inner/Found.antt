@@ -5,13 +5,13 @@ use Rattle.sip_text.specs.declared.fields.BodyLength.TheVariants.{Unsaid, Bytes,
 use Rattle.sip_text.specs.declared.found.Field.{Field}
 use Rattle.sip_text.specs.declared.found.Field.TheVariants as fields
 use Rattle.sip_text.specs.declared.found.Found.{Found}
-use Rattle.sip_text.specs.declared.needed.Needed.{Needed}
-use Rattle.sip_text.specs.declared.needed.Needed.TheVariants.{Via, From, To, CallId, CSeq}
+use Rattle.sip_text.specs.declared.needed.MandatoryHeader.{MandatoryHeader}
+use Rattle.sip_text.specs.declared.needed.MandatoryHeader.TheVariants.{Via, From, To, CallId, CSeq}
 use Rattle.sip_text.specs.Fields.{agreed, length_number, said_length, says, value_of}
 use Rattle.sip_text.specs.Seen.{part_at}
 use Rattle.sip_text.specs.Text.{HeaderText}
 
-abbrev pub is_same : Needed → Needed → Bool
+abbrev pub is_same : MandatoryHeader → MandatoryHeader → Bool
 is_same Via Via = true
 is_same From From = true
 is_same To To = true
@@ -19,7 +19,7 @@ is_same CallId CallId = true
 is_same CSeq CSeq = true
 is_same _ _ = false
 
-abbrev pub is_needed : Needed → Field → Bool
+abbrev pub is_needed : MandatoryHeader → Field → Bool
 is_needed which (fields.Needed other) = is_same which other
 is_needed which _ = false
 
@@ -38,7 +38,7 @@ said_then Wrong value = Wrong
 said_then Unsaid value = agreed (length_number value) []
 said_then (Bytes n) value = if says n value then Bytes n else Wrong
 
-abbrev pub got : List ℕ → Needed → Found → Option (List ℕ)
+abbrev pub got : List ℕ → MandatoryHeader → Found → Option (List ℕ)
 got text Via found = option_map (part_at text) found.via
 got text From found = option_map (part_at text) found.from
 got text To found = option_map (part_at text) found.to
@@ -46,7 +46,7 @@ got text CallId found = option_map (part_at text) found.call_id
 got text CSeq found = option_map (part_at text) found.cseq
 
 -- the first of the needed fields that was not found
-abbrev pub missing_of : List ℕ → Found → Option Needed
+abbrev pub missing_of : List ℕ → Found → Option MandatoryHeader
 missing_of text found =
     if is_none (got text Via found) then Some Via
     else (if is_none (got text From found) then Some From
@@ -57,5 +57,5 @@ missing_of text found =
 
 -- of each needed field the first value, and what the Content-Length lines say
 pub record Finds (text : List ℕ) (hs : List HeaderText) (found : Found) : Type 0 where
-  pub needed : (which : Needed) → got text which found ≡ value_of which hs
+  pub needed : (which : MandatoryHeader) → got text which found ≡ value_of which hs
   pub length : found.length ≡ said_length hs

@@ -2,7 +2,7 @@
 use Rattle.std.specs.Prelude.{◌≡◌, ℕ, ◌+◌, ◌≤◌, List, ◌++◌, drop, length, take}
 use Rattle.std.specs.List.{AllByRecursion}
 use Rattle.sip_text.specs.declared.place.LinePlaces.{LinePlaces}
-use Rattle.sip_text.specs.declared.place.Place.{Place}
+use Rattle.sip_text.specs.declared.place.PartPlace.{PartPlace}
 use Rattle.sip_text.specs.declared.place.StartPlaces.{StartPlaces}
 use Rattle.sip_text.specs.declared.place.StartPlaces.TheVariants.{Request, Response}
 use Rattle.sip_text.specs.Message.{IsMessage}
@@ -18,7 +18,7 @@ abbrev pub IsAt : List ℕ → ℕ → List ℕ → Type 0
 IsAt text at part = take (length part) (drop at text) ≡ part
 
 -- a place lies within so many bytes
-abbrev pub IsWithin : ℕ → Place → Type 0
+abbrev pub IsWithin : ℕ → PartPlace → Type 0
 IsWithin room place = place.start + place.len ≤ room
 
 abbrev pub IsLineWithin : ℕ → LinePlaces → Type 0
@@ -33,7 +33,7 @@ IsStartWithin room (Response status reason) = IsWithin room reason
 
 -- ---- places in a line, as places in the text that it stands in
 
-abbrev pub moved : ℕ → Place → Place
+abbrev pub moved : ℕ → PartPlace → PartPlace
 moved by place = record { start = by + place.start; len = place.len }
 
 abbrev pub line_moved : ℕ → LinePlaces → LinePlaces
@@ -46,12 +46,12 @@ start_moved by (Response status reason) = Response status (moved by reason)
 -- ---- the message
 
 -- the message of these places of a text
-abbrev pub message_in : List ℕ → StartPlaces → List LinePlaces → Place → MessageText
-message_in text start lines body = record { start = start_in text start; headers = headers_in text lines; body = part_at text body }
+abbrev pub placed_message : List ℕ → StartPlaces → List LinePlaces → PartPlace → MessageText
+placed_message text start lines body = record { start = start_in text start; headers = headers_in text lines; body = part_at text body }
 
 -- all places lie within the text, and it is a message
-pub record IsKept (text : List ℕ) (start : StartPlaces) (lines : List LinePlaces) (body : Place) : Type 0 where
+pub record IsKept (text : List ℕ) (start : StartPlaces) (lines : List LinePlaces) (body : PartPlace) : Type 0 where
   pub start_within : IsStartWithin (length text) start
   pub lines_within : AreLinesWithin (length text) lines
   pub body_within : IsWithin (length text) body
-  pub message : IsMessage (message_in text start lines body)
+  pub message : IsMessage (placed_message text start lines body)

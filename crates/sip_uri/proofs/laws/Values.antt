@@ -1,6 +1,6 @@
 -- The items of a value within a line are values.
 use Rattle.sip_uri.proofs.Common.{◌≡◌, ℕ, suc, ◌+◌, ◌-◌, Bool, true, false, List, [], ◌∷◌, length, map, take, drop, refl, sym, ap, ◌∙◌, arith, Some, list_all, onto_first, prefix_len, and_from, and_parts, cond_both, take-append-drop, QuotesAndAngles}
-use Rattle.sip_uri.proofs.Common.{Place, Plain, is_space, trim, trim_start, pieces_from, pieces_outside, place_after, items_behind, is_line, is_value, common_steps}
+use Rattle.sip_uri.proofs.Common.{ShelterState, Plain, is_space, trim, trim_start, pieces_from, pieces_outside, place_after, items_behind, is_line, is_value, common_steps}
 use Rattle.std.specs.List.{suffix_len}
 use Rattle.std.proofs.lemmas.List.Folds.{list_all-append}
 use Rattle.sip_lex.proofs.laws.Trims.{trim_end-reverse}
@@ -34,7 +34,7 @@ trim_line bs h =
 pub onto_line : (b : ℕ) (parts : List (List ℕ)) → is_line_byte b ≡ true → list_all is_line parts ≡ true → list_all is_line (onto_first b parts) ≡ true
 onto_line b parts h k = grind arith
 
-pieces_line : (place : Place) (bs : List ℕ) → is_line bs ≡ true → list_all is_line (pieces_from QuotesAndAngles 44 place bs) ≡ true
+pieces_line : (place : ShelterState) (bs : List ℕ) → is_line bs ≡ true → list_all is_line (pieces_from QuotesAndAngles 44 place bs) ≡ true
 pieces_line place [] h = refl
 pieces_line place (b ∷ bs) h =
     let each = and_parts (is_line_byte b) (is_line bs) h in

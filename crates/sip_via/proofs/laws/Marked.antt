@@ -1,6 +1,6 @@
 -- A Via line whose top value was marked is a header value.
 use Rattle.sip_via.proofs.Common.{◌≡◌, ℕ, suc, ◌+◌, ◌<◌, ◌^◌, Bool, true, false, not, eqb, cond, List, [], ◌∷◌, ◌++◌, length, map, take, drop, reverse, Option, refl, sym, ap, ◌∙◌, append_assoc, arith, codes, Ok, is_ascii_digit, to_ascii_lowercase}
-use Rattle.sip_via.proofs.Common.{decimal, flat_map, list_all, prefix_len, and_parts, cases_Bool, cond-true, cond-false, cond_both, digits_decimal, reverse-append, reverse-reverse, take-append-drop, list_all-append, Quotes, Place, Plain, is_space}
+use Rattle.sip_via.proofs.Common.{decimal, flat_map, list_all, prefix_len, and_parts, cases_Bool, cond-true, cond-false, cond_both, digits_decimal, reverse-append, reverse-reverse, take-append-drop, list_all-append, Quotes, ShelterState, Plain, is_space}
 use Rattle.sip_via.proofs.Common.{trim, trim_end, trim_start, behind, pieces_outside_behind, cut_outside, place_after, cut_outside_joins, trim_end-reverse, trim_end-whole, IsMessage, is_header, is_line, is_line_byte, is_trimmed, is_value}
 use Rattle.sip_via.proofs.Common.{first_value, HeaderText, MessageText, begins_with_space, and_both, trim_trimmed, Hop, other_than, IsAddress, address_text, dotted, IsSource, asks_port, filled, first_via_line, gets_received, marked_line}
 use Rattle.sip_via.proofs.Common.{marked_param, marked_parts, marked_value, received_text, with_via_line, are_parts, is_named, is_via, or_empty, parts_of, via_of, own, common_steps}
@@ -69,7 +69,7 @@ take-front n bs h = grind arith
 onto-line : (b : ℕ) (parts : List (List ℕ)) → is_line_byte b ≡ true → list_all is_line parts ≡ true → list_all is_line (onto_first b parts) ≡ true
 onto-line b parts h k = grind arith
 
-pieces-line : (place : Place) (bs : List ℕ) → is_line bs ≡ true → list_all is_line (pieces_from Quotes 59 place bs) ≡ true
+pieces-line : (place : ShelterState) (bs : List ℕ) → is_line bs ≡ true → list_all is_line (pieces_from Quotes 59 place bs) ≡ true
 pieces-line place [] h = refl
 pieces-line place (b ∷ bs) h =
     let each = and_parts (is_line_byte b) (is_line bs) h in

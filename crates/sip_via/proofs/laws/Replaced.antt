@@ -1,8 +1,8 @@
 -- A message of which header lines were replaced is one.
 use Rattle.sip_via.proofs.Common.{◌≡◌, ℕ, Bool, true, false, cond, List, [], ◌∷◌, ◌++◌, Option, Some, None, refl, sym, ap, ◌∙◌, inl, inr, codes, is_none, list_all, bytes_eq, str_to_ascii_lowercase, and_parts, cases_Bool, cond_both, cond-true}
 use Rattle.sip_via.proofs.Common.{cond-false, bytes_eq-Decides, is_token, IsMessage, is_header, is_value, first_of, first_value, same_name, HeaderText, MessageText, and_both, line_if_any, replaced, with_headers, arith, common_steps}
-use Rattle.sip_text.specs.declared.needed.Needed.{Needed}
-use Rattle.sip_text.specs.declared.needed.Needed.TheVariants.{Via, From, To, CallId, CSeq}
+use Rattle.sip_text.specs.declared.needed.MandatoryHeader.{MandatoryHeader}
+use Rattle.sip_text.specs.declared.needed.MandatoryHeader.TheVariants.{Via, From, To, CallId, CSeq}
 use Rattle.sip_text.specs.Fields.{length_name, missing}
 use Rattle.sip_text.specs.Name.{full_name, values_of}
 
@@ -74,7 +74,7 @@ pub record SameOthers (hs ks : List HeaderText) : Type 0 where
 abbrev no_via : List HeaderText → Bool
 no_via hs = is_none (first_value (codes "via") hs)
 
-abbrev missing_by : Bool → List (List ℕ) → List (List ℕ) → List (List ℕ) → List (List ℕ) → Option Needed
+abbrev missing_by : Bool → List (List ℕ) → List (List ℕ) → List (List ℕ) → List (List ℕ) → Option MandatoryHeader
 missing_by via from to call cseq =
     cond via (Some Via)
     (cond (is_none (first_of from)) (Some From)
@@ -82,7 +82,7 @@ missing_by via from to call cseq =
     (cond (is_none (first_of call)) (Some CallId)
     (cond (is_none (first_of cseq)) (Some CSeq) None))))
 
-some-none : (b : Bool) (which : Needed) (rest : Option Needed) → cond b (Some which) rest ≡ None → (b ≡ false) × (rest ≡ None)
+some-none : (b : Bool) (which : MandatoryHeader) (rest : Option MandatoryHeader) → cond b (Some which) rest ≡ None → (b ≡ false) × (rest ≡ None)
 some-none b which rest e = grind arith
 
 -- nothing is missing in a message

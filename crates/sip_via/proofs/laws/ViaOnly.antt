@@ -1,12 +1,12 @@
 -- What is a Via value is read as it.
 use Rattle.sip_via.proofs.Common.{◌≡◌, ◌≢◌, ℕ, ◌+◌, Bool, true, false, not, cond, eqb, ltb, List, [], ◌∷◌, ◌++◌, length, map, take, drop, reverse, Option, Some, None, Result, Ok, refl, sym, ap, subst, ◌∙◌, append_assoc, inl, inr, arith, IfSome, ◌||◌}
 use Rattle.sip_via.proofs.Common.{◌&&◌, codes, option_map, is_ascii_digit, to_ascii_lowercase, list_all, AllByRecursion, flat_map, bytes_eq, str_to_ascii_lowercase, and_from, and_parts, cond-true, cond-false, false≢true, append-nil, drop_at}
-use Rattle.sip_via.proofs.Common.{reverse-append, reverse-reverse, take_at, list_all-append, bytes_eq-Decides, Quotes, Place, Plain, is_space, is_token, is_token_byte, trim, trim_end, trim_start, behind, cut, is, Lacks, pieces_outside_behind}
+use Rattle.sip_via.proofs.Common.{reverse-append, reverse-reverse, take_at, list_all-append, bytes_eq-Decides, Quotes, ShelterState, Plain, is_space, is_token, is_token_byte, trim, trim_end, trim_start, behind, cut, is, Lacks, pieces_outside_behind}
 use Rattle.sip_via.proofs.Common.{place_after, cut_again, pieces_outside-cut, cut_outside_again, joined, joined-behind, token_bytes, trim_end-reverse, trim_start-none, trim_start-spaces, IsHost, IsPort, host_len, is_address_byte, is_host_byte}
 use Rattle.sip_via.proofs.Common.{other_than, ViaFault, AreParamGaps, AreViaGaps, IsSpace, IsValue, IsVia, IsViaParam, ParamGaps, ViaGaps, param_spelling, param_text, spaced, spelling, tail_spelling, Parts, ViaText, is_param, is_value_byte}
 use Rattle.sip_via.proofs.Common.{is_value_if_any, or_empty, params_of, port_and_params, read_via, common_steps}
 use Rattle.std.specs.Prelude.{OnSome}
-use Rattle.sip_lex.specs.declared.sheltered.Place.TheVariants.{Escaped, Quoted}
+use Rattle.sip_lex.specs.declared.sheltered.ShelterState.TheVariants.{Escaped, Quoted}
 use Rattle.sip_lex.specs.Quoted.{IsInside}
 use Rattle.sip_lex.specs.Sheltered.{LacksOutside, end_place}
 use Rattle.sip_lex.proofs.laws.Cuts.{Lacks-append, Lacks-pass}
@@ -167,7 +167,7 @@ params_good (p ∷ ps) h = and_from (is_param p) (list_all is_param ps) (param_g
 
 -- ---- neither `;` nor `,` stands in a parameter but in quotes, and its quotes are closed
 
-pub record IsUnsplit (mark : ℕ) (place : Place) (bs : List ℕ) : Type 0 where
+pub record IsUnsplit (mark : ℕ) (place : ShelterState) (bs : List ℕ) : Type 0 where
   pub lacks : LacksOutside Quotes mark place bs
   pub ends : end_place Quotes place bs ≡ Plain
 
@@ -209,8 +209,8 @@ pub unsplit_all : (mark : ℕ) → IsMark mark → (xs : List ℕ) → list_all 
 unsplit_all mark m xs h = subst (IsUnsplit mark Plain) (append-nil xs) (unsplit_append mark m xs h [] (unsplit_empty mark))
 
 -- one such text behind another
-pub unsplit_join : (mark : ℕ) (place : Place) (xs ys : List ℕ) → IsUnsplit mark place xs → IsUnsplit mark Plain ys → IsUnsplit mark place (xs ++ ys)
-unsplit_join mark place [] ys h k = subst (λ (p : Place). IsUnsplit mark p ys) (sym h.ends) k
+pub unsplit_join : (mark : ℕ) (place : ShelterState) (xs ys : List ℕ) → IsUnsplit mark place xs → IsUnsplit mark Plain ys → IsUnsplit mark place (xs ++ ys)
+unsplit_join mark place [] ys h k = subst (λ (p : ShelterState). IsUnsplit mark p ys) (sym h.ends) k
 unsplit_join mark place (b ∷ xs) ys h k =
     let rest = unsplit_join mark (place_after Quotes place b) xs ys (record { lacks = h.lacks.1; ends = h.ends }) k in
     record { lacks = (h.lacks.0, rest.lacks); ends = rest.ends }
@@ -222,7 +222,7 @@ pub class_unsplit : (p : ℕ → Bool) → p 59 ≡ false → p 44 ≡ false →
 class_unsplit p semicolon comma quote xs h = all_pass p neither xs (class_neither p semicolon comma quote) h
 
 -- inside quotes
-abbrev place_in : Bool → Place
+abbrev place_in : Bool → ShelterState
 place_in true = Escaped
 place_in false = Quoted
 
@@ -236,8 +236,8 @@ inside_unsplit mark false (b ∷ inside) ys h k =
     let rest = inside_unsplit mark (eqb b 92) inside ys h.1 k in
     let later : place_after Quotes Quoted b ≡ place_in (eqb b 92) = after_quoted (eqb b 92) (eqb b 34) (and_true (eqb b 34) h.0) in
     record {
-      lacks = (refl, subst (λ (p : Place). LacksOutside Quotes mark p (inside ++ (34 ∷ ys))) (sym later) rest.lacks);
-      ends = ap (λ (p : Place). end_place Quotes p (inside ++ (34 ∷ ys))) later ∙ rest.ends;
+      lacks = (refl, subst (λ (p : ShelterState). LacksOutside Quotes mark p (inside ++ (34 ∷ ys))) (sym later) rest.lacks);
+      ends = ap (λ (p : ShelterState). end_place Quotes p (inside ++ (34 ∷ ys))) later ∙ rest.ends;
     }
   where
     and_true : (t : Bool) → (t && true) ≡ false → t ≡ false

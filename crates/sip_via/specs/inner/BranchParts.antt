@@ -2,7 +2,7 @@
 use Rattle.std.specs.Prelude.{ℕ, List, [], ◌∷◌, ◌++◌, take, drop, Option, Some, None, ◌==◌, if◌then◌else◌}
 use Rattle.std.specs.Fmt.{decimal}
 use Rattle.sip_lex.specs.Cut.{cut, is}
-use Rattle.sip_via.specs.declared.branch.Parts.{Parts}
+use Rattle.sip_via.specs.declared.branch.SplitBranch.{SplitBranch}
 use Rattle.sip_via.specs.declared.branch.BranchName.{BranchName}
 use Rattle.sip_via.specs.HexPair.{hex_text}
 
@@ -35,9 +35,9 @@ abbrev pub parts_of : List ℕ → Option BranchParts
 parts_of text = with_key (take 32 text) (drop 32 text)
 
 -- parts in memory
-abbrev pub view_parts : Parts → BranchParts
+abbrev pub view_parts : SplitBranch → BranchParts
 view_parts p = record { key = p.key.now; instance = p.instance.now; context = p.context.now; target = p.target.now }
 
-abbrev pub seen_parts : Option Parts → Option BranchParts
+abbrev pub seen_parts : Option SplitBranch → Option BranchParts
 seen_parts None = None
 seen_parts (Some p) = Some (view_parts p)

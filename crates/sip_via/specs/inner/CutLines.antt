@@ -2,7 +2,7 @@
 use Rattle.std.specs.Prelude.{◌≡◌, ℕ, true, List, drop, length}
 use Rattle.std.specs.Option.{option_copied}
 use Rattle.sip_lex.specs.declared.sheltered.Shelter.TheVariants.{Quotes}
-use Rattle.sip_lex.specs.declared.sheltered.Place.TheVariants.{Plain}
+use Rattle.sip_lex.specs.declared.sheltered.ShelterState.TheVariants.{Plain}
 use Rattle.sip_lex.specs.Bytes.{trim, trim_end}
 use Rattle.sip_lex.specs.Sheltered.{cut_outside}
 use Rattle.sip_via.specs.declared.received.CutLine.{CutLine}

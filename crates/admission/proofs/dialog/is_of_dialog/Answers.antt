@@ -1,6 +1,6 @@
 use Rattle.std.proofs.Common.{◌≡◌, true, false, sym, ap, ◌∙◌, rules}
 use Rattle.std.specs.Prelude.{is_some}
-use Rattle.sip_text.specs.declared.needed.Needed.TheVariants.{To}
+use Rattle.sip_text.specs.declared.needed.MandatoryHeader.TheVariants.{To}
 use Rattle.sip_text.specs.Fields.{value_of}
 use Rattle.sip_text.specs.Tag.{tag_in}
 use Rattle.sip_via.specs.ViaParts.{or_empty}

@@ -1,5 +1,5 @@
 use Rattle.std.proofs.Common.{List, ℕ, refl, sym, subst}
-use Rattle.sip_digest.specs.declared.verdict.Verdict.{Verdict}
+use Rattle.sip_digest.specs.declared.verdict.CredentialsVerdict.{CredentialsVerdict}
 use Rattle.sip_digest.specs.Right.{IsUriOf}
 use Rattle.sip_digest.specs.SeenCredentials.{seen_credentials}
 use Rattle.authentication.specs.SeenRealm.{seen_realm}
@@ -14,12 +14,12 @@ returns-then-not-is_uri g c = λ is.
 pub returns-in-Stale : goal.returns-in-Stale
 returns-in-Stale g c = (
   subst (λ (uri : List ℕ). IsUriOf uri c.args.asked.now.uri.now) c.as_slice.ensures (c.in_ok-is_uri.ensures.0 c.if-not-is_uri.false),
-  subst (λ (v : Verdict). IsVerdictOn (seen_realm c.args.realm.now) (asked_as c.args.asked.now) (seen_credentials c.args.credentials) v) c.in-Stale.is c.in_ok-verdict.ensures,
+  subst (λ (v : CredentialsVerdict). IsVerdictOn (seen_realm c.args.realm.now) (asked_as c.args.asked.now) (seen_credentials c.args.credentials) v) c.in-Stale.is c.in_ok-verdict.ensures,
 )
 
 pub returns : goal.returns
 returns g c = (
   refl,
   subst (λ (uri : List ℕ). IsUriOf uri c.args.asked.now.uri.now) c.as_slice.ensures (c.in_ok-is_uri.ensures.0 c.if-not-is_uri.false),
-  subst (λ (v : Verdict). IsVerdictOn (seen_realm c.args.realm.now) (asked_as c.args.asked.now) (seen_credentials c.args.credentials) v) c.in-Wrong.is c.in_ok-verdict.ensures,
+  subst (λ (v : CredentialsVerdict). IsVerdictOn (seen_realm c.args.realm.now) (asked_as c.args.asked.now) (seen_credentials c.args.credentials) v) c.in-Wrong.is c.in_ok-verdict.ensures,
 )

@@ -1,5 +1,5 @@
 use Rattle.std.proofs.Common.{◌≡◌, ℕ}
-use Rattle.fork_control.specs.declared.command.Command.TheVariants as command
+use Rattle.fork_control.specs.declared.command.ControlCommand.TheVariants as command
 use Rattle.fork_control.proofs.command.read_numbered.Goals as goal
 
 pub returns-in-None-clause-stop : goal.returns-in-None-clause-stop

@@ -1,22 +1,22 @@
-use Rattle.fork_listing.proofs.Common.{◌≡◌, ◌∙◌, ◌+◌, ℕ, false, true, List, length, Option, Err, sym, ap, subst, arith, false≢true, Rules, BestRef, IsBest, Target, Ranked, Listing, IsFirstToFail, IsPlaced, IsOrdered, IsListed, IsRight, IsVerdictOf}
+use Rattle.fork_listing.proofs.Common.{◌≡◌, ◌∙◌, ◌+◌, ℕ, false, true, List, length, Option, Err, sym, ap, subst, arith, false≢true, Rules, BestRef, IsBest, ListedTarget, Ranked, Listing, IsFirstToFail, IsPlaced, IsOrdered, IsListed, IsRight, IsVerdictOf}
 use Rattle.fork_listing.proofs.Common.{rows_of, common_steps}
 use Rattle.fork_listing.specs.declared.refusal.CheckFault.TheVariants.{Tree, Order, Absent, FinalLine}
 use Rattle.fork_listing.proofs.Finals.{is_chosen, not_chosen}
 use Rattle.fork_listing.proofs.refusal.check_listing.Goals as goal
 
-branches : (depth : ℕ) (ts us : List Target) (o p : Option ℕ) → ts ≡ us → o ≡ p → IsFirstToFail (IsPlaced depth ts) (length ts) o → IsFirstToFail (IsPlaced depth us) (length us) p
+branches : (depth : ℕ) (ts us : List ListedTarget) (o p : Option ℕ) → ts ≡ us → o ≡ p → IsFirstToFail (IsPlaced depth ts) (length ts) o → IsFirstToFail (IsPlaced depth us) (length us) p
 branches depth ts us o p t e h = grind arith
 
-order : (r : Rules) (ts us : List Target) (rs qs : List Ranked) (o p : Option ℕ) → ts ≡ us → rs ≡ qs → o ≡ p → IsFirstToFail (IsOrdered r ts rs) (length rs) o → IsFirstToFail (IsOrdered r us qs) (length qs) p
+order : (r : Rules) (ts us : List ListedTarget) (rs qs : List Ranked) (o p : Option ℕ) → ts ≡ us → rs ≡ qs → o ≡ p → IsFirstToFail (IsOrdered r ts rs) (length rs) o → IsFirstToFail (IsOrdered r us qs) (length qs) p
 order r ts us rs qs o p t q e h = grind arith
 
-listed : (ts us : List Target) (rs qs : List Ranked) (o p : Option ℕ) → ts ≡ us → rs ≡ qs → o ≡ p → IsFirstToFail (IsListed ts rs) (length ts) o → IsFirstToFail (IsListed us qs) (length us) p
+listed : (ts us : List ListedTarget) (rs qs : List Ranked) (o p : Option ℕ) → ts ≡ us → rs ≡ qs → o ≡ p → IsFirstToFail (IsListed ts rs) (length ts) o → IsFirstToFail (IsListed us qs) (length us) p
 listed ts us rs qs o p t q e h =
-    let P : List Target → Type 0 = λ x. IsFirstToFail (IsListed x qs) (length x) p in
+    let P : List ListedTarget → Type 0 = λ x. IsFirstToFail (IsListed x qs) (length x) p in
     grind (arith, common_steps)
 
-best_of : (r : Rules) (ts us : List Target) (best : Option BestRef) → ts ≡ us → IsBest r (rows_of ts) best → IsBest r (rows_of us) best
-best_of r ts us best t = subst (λ (x : List Target). IsBest r (rows_of x) best) t
+best_of : (r : Rules) (ts us : List ListedTarget) (best : Option BestRef) → ts ≡ us → IsBest r (rows_of ts) best → IsBest r (rows_of us) best
+best_of r ts us best t = subst (λ (x : List ListedTarget). IsBest r (rows_of x) best) t
 
 pub returns-in-Some : goal.returns-in-Some
 returns-in-Some g c =

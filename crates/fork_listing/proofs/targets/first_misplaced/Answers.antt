@@ -1,4 +1,4 @@
-use Rattle.fork_listing.proofs.Common.{◌≡◌, ◌<◌, ◌∙◌, true, false, Some, length, sym, ap, arith, refl, slice_get, option_and_then, false≢true, arrival_of, ended_at, slice_get_read, Target, IsPlaced, common_steps}
+use Rattle.fork_listing.proofs.Common.{◌≡◌, ◌<◌, ◌∙◌, true, false, Some, length, sym, ap, arith, refl, slice_get, option_and_then, false≢true, arrival_of, ended_at, slice_get_read, ListedTarget, IsPlaced, common_steps}
 use Rattle.fork_listing.proofs.Placing.{holds_all, near_of, fresh_of, placed_more}
 use Rattle.fork_listing.proofs.Arrivals.{holds_more, fresh_if}
 use Rattle.fork_listing.proofs.targets.first_misplaced.Goals as goal
@@ -25,7 +25,7 @@ loop-n-preserved g c =
     let t = c.index-targets-n.result in
     let lt : n < length targets = omega arith in
     let here : slice_get targets n ≡ Some t = slice_get_read targets (length targets) n t refl lt c.index-targets-n.is in
-    let ends : ended_at targets n ≡ c.arrival_of.result = ap (option_and_then (λ (x : Target). arrival_of x.end)) here ∙ sym c.arrival_of.ensures in
+    let ends : ended_at targets n ≡ c.arrival_of.result = ap (option_and_then (λ (x : ListedTarget). arrival_of x.end)) here ∙ sym c.arrival_of.ensures in
     let near : c.is_near.result ≡ true = grind arith in
     let new : c.in_ok-note.field-0 ≡ true = grind arith in
     let fresh = fresh_if c.loop-n.arrivals c.note.new.arrivals targets n c.arrival_of.result c.in_ok-note.field-0 ends c.in_ok-note.ensures c.loop-n.invariant.1 in (

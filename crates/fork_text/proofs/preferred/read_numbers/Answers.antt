@@ -4,7 +4,7 @@ use Rattle.fork_text.proofs.preferred.read_numbers.Goals as goal
 
 pub returns-in_default : goal.returns-in_default
 returns-in_default c =
-    let nothing = none c.loop-number.numbers.items c.loop-number.rest.now c.cut_at.result.0.now (option_copied c.cut_at.result.1) c.cut_at.ensures.value (sym c.read_number.ensures.value ∙ c.in_default.is) in
+    let nothing = none c.loop-number.numbers.items c.loop-number.rest.now c.cut_at.result.0.now (option_copied c.cut_at.result.1) c.cut_at.ensures.value (sym c.read_small_number.ensures.value ∙ c.in_default.is) in
     sym (ap (option_and_then preferred_if) (sym c.loop-number.invariant ∙ nothing))
 
 pub returns-then-is_full : goal.returns-then-is_full
@@ -14,7 +14,7 @@ pub returns-in-None : goal.returns-in-None
 returns-in-None c =
     let digits = c.cut_at.result.0.now in
     let e : (digits, None) ≡ cut (is 44) c.loop-number.rest.now = ap (λ (after : Option (List ℕ)). (digits, after)) (sym (ap option_copied c.in-None.is)) ∙ c.cut_at.ensures.value in
-    let some : plain_number_within 499 digits ≡ Some c.in-Some.number = sym c.read_number.ensures.value ∙ c.in-Some.is in
+    let some : plain_number_within 499 digits ≡ Some c.in-Some.number = sym c.read_small_number.ensures.value ∙ c.in-Some.is in
     let step = next c.loop-number.numbers.items c.loop-number.rest.now digits None c.in-Some.number e some in
     ap preferred_if c.push.ensures.items ∙ sym (ap (option_and_then preferred_if) (sym c.loop-number.invariant ∙ step))
 
@@ -23,7 +23,7 @@ loop-number-preserved c =
     let digits = c.cut_at.result.0.now in
     let after = c.in-Some-more.after.now in
     let e : (digits, Some after) ≡ cut (is 44) c.loop-number.rest.now = ap (λ (behind : Option (List ℕ)). (digits, behind)) (sym (ap option_copied c.in-Some-more.is)) ∙ c.cut_at.ensures.value in
-    let some : plain_number_within 499 digits ≡ Some c.in-Some.number = sym c.read_number.ensures.value ∙ c.in-Some.is in
+    let some : plain_number_within 499 digits ≡ Some c.in-Some.number = sym c.read_small_number.ensures.value ∙ c.in-Some.is in
     ap (λ (numbers : List ℕ). numbers_onto numbers (slice_split (is 44) after)) c.push.ensures.items
     ∙ sym (next c.loop-number.numbers.items c.loop-number.rest.now digits (Some after) c.in-Some.number e some)
     ∙ c.loop-number.invariant

@@ -16,8 +16,8 @@ returns-in-Some-clause-found g t c = grind (arith, common_steps, under_twice, pa
 
 pub returns-in-None-clause-found : goal.returns-in-None-clause-found
 returns-in-None-clause-found g t c =
-    way_finds c.args.places.now c.args.root.now c.child-node-in-None.result.now c.args.n c.place_of-place.result c.ready.result c.or_below-in-None.result c.requires.shape
-    c.place_of-place.ensures
-    (c.child-node-in-None.ensures ∙ ap (λ x. under x c.args.root.now) (sym (path_top c.args.places.now c.args.n c.place_of-place.result c.place_of-place.ensures c.in-None.is)))
+    way_finds c.args.places.now c.args.root.now c.child-node-in-None.result.now c.args.n c.node_place-place.result c.ready.result c.or_below-in-None.result c.requires.shape
+    c.node_place-place.ensures
+    (c.child-node-in-None.ensures ∙ ap (λ x. under x c.args.root.now) (sym (path_top c.args.places.now c.args.n c.node_place-place.result c.node_place-place.ensures c.in-None.is)))
     (subst (λ o. FindsOnWay (rows_of c.args.places.now c.args.root.now) o c.ready.result) (sym c.in-None.is)
     (top_finds c.args.places.now c.args.root.now c.ready.result c.requires.shape c.ready.ensures)) c.or_below-in-None.ensures

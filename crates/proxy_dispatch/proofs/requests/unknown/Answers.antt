@@ -1,6 +1,6 @@
 use Rattle.proxy_dispatch.proofs.Common.{◌≡◌, ◌∙◌, [], None, Option, Some, List, ℕ, ap, refl, sym, IfOk-weaker, seen_sent, request_key}
 use Rattle.std.specs.Prelude.{option_map}
-use Rattle.proxy_dispatch.specs.declared.purpose.Purpose.TheVariants as purposes
+use Rattle.proxy_dispatch.specs.declared.purpose.RequestKind.TheVariants as purposes
 use Rattle.proxy_dispatch.proofs.Becoming.{key_so, new_at, purpose_at}
 use Rattle.proxy_dispatch.proofs.Outcomes.{by_both}
 use Rattle.proxy_dispatch.proofs.requests.unknown.Goals as goal

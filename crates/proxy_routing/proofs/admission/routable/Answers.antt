@@ -1,5 +1,5 @@
 use Rattle.std.proofs.lemmas.Bool.{false≢true}
-use Rattle.proxy_routing.proofs.Common.{◌∙◌, ap, refl, sym, subst, Hops, MayPass, is_spent}
+use Rattle.proxy_routing.proofs.Common.{◌∙◌, ap, refl, sym, subst, MaxForwards, MayPass, is_spent}
 use Rattle.proxy_routing.proofs.Admitting.{fault_of_other_scheme, may_pass, other_scheme, unformed}
 use Rattle.proxy_routing.proofs.admission.routable.Goals as goal
 
@@ -19,12 +19,12 @@ pub returns-clause-well : goal.returns-clause-well
 returns-clause-well g c = record {
   formed = c.in_ok-marked.ensures.formed;
   scheme = λ other. false≢true (c.if-is_of_another_scheme.ensures.1 (fault_of_other_scheme c.args.message c.request_uri.result.now c.uri_fault-fault.result c.uri_fault-fault.ensures.exact c.request_uri.ensures other));
-  hops = ap is_spent (sym c.hops_of-hops.ensures.value) ∙ sym c.if-is_spent.ensures;
+  hops = ap is_spent (sym c.max_forwards-hops.ensures.value) ∙ sym c.if-is_max_forwards_zero.ensures;
 }
 
 pub returns-clause-hops : goal.returns-clause-hops
 returns-clause-hops g c =
     let m = c.args.message in
-    let P : Hops → Type 0 = λ hops. MayPass hops in
-    let goes_on = ap is_spent (sym c.hops_of-hops.ensures.value) ∙ sym c.if-is_spent.ensures in
-    c.hops_of-hops.ensures.passes.0 (subst P (sym c.hops_of-hops.ensures.value) (may_pass m c.in_ok-marked.ensures.formed goes_on))
+    let P : MaxForwards → Type 0 = λ hops. MayPass hops in
+    let goes_on = ap is_spent (sym c.max_forwards-hops.ensures.value) ∙ sym c.if-is_max_forwards_zero.ensures in
+    c.max_forwards-hops.ensures.passes.0 (subst P (sym c.max_forwards-hops.ensures.value) (may_pass m c.in_ok-marked.ensures.formed goes_on))

@@ -2,19 +2,19 @@ use Rattle.std.proofs.Common.{◌≡◌, ap, ◌∙◌, subst, sym, refl, codes,
 use Rattle.std.proofs.lemmas.Result.{on_ok_weaker}
 use Rattle.fork_model.specs.Core.{Core}
 use Rattle.fork_model.specs.Log.{core_of}
-use Rattle.sip_text.specs.declared.needed.Needed.TheVariants.{CallId, From}
+use Rattle.sip_text.specs.declared.needed.MandatoryHeader.TheVariants.{CallId, From}
 use Rattle.sip_text.specs.Fields.{value_of}
 use Rattle.sip_text.specs.Text.{MessageText, method_in}
 use Rattle.sip_via.specs.ViaParts.{or_empty}
 use Rattle.sip_route.specs.Loop.{request_uri}
-use Rattle.call_journal.specs.declared.head.Head.{Head}
+use Rattle.call_journal.specs.declared.head.CallRecord.{CallRecord}
 use Rattle.call_journal.specs.Block.{Journals}
 use Rattle.proxy_service.proofs.journal.append_block.Goals as goal
 
 pub returns-clause-ok : goal.returns-clause-ok
 returns-clause-ok g c =
     let of_call = c.request-request.ensures in
-    let head : Head = record {
+    let head : CallRecord = record {
       time = c.args.time;
       number = c.number.result;
       method = c.method_of.result;

@@ -11,7 +11,7 @@ returns-clause-ok g c =
     let target = c.args.target.now in
     let branch = c.args.branch.now in
     let same : (recorded : Option (List ℕ)) → spelling (along_to (codes "ACK") m target c.args.own branch c.first_value-to.result.now []) ≡ spelling (ack_of (forwarded m target c.args.own branch recorded) c.args.response.now) =
-    λ recorded. ap (λ (to : List ℕ). spelling (along_to (codes "ACK") m target c.args.own branch to [])) c.first_value-to.ensures ∙ ap spelling (sym (c.ack_of_a_forwarded_request.ensures m c.args.response.now target c.args.own branch recorded c.requires c.is_own.ensures c.is_branch.ensures)) in
+    λ recorded. ap (λ (to : List ℕ). spelling (along_to (codes "ACK") m target c.args.own branch to [])) c.first_value-to.ensures ∙ ap spelling (sym (c.ack_of_a_forwarded_request.ensures m c.args.response.now target c.args.own branch recorded c.requires c.fact_own.ensures c.fact_branch.ensures)) in
     on_ok c.append_to_same_hop.result (λ e recorded. e ∙ ap (λ (x : List ℕ). c.args.out.now.items ++ x) (same recorded)) c.append_to_same_hop.ensures.ok
 
 pub returns-clause-room : goal.returns-clause-room
@@ -20,5 +20,5 @@ returns-clause-room g c recorded =
     let target = c.args.target.now in
     let branch = c.args.branch.now in
     let same : (recorded : Option (List ℕ)) → spelling (along_to (codes "ACK") m target c.args.own branch c.first_value-to.result.now []) ≡ spelling (ack_of (forwarded m target c.args.own branch recorded) c.args.response.now) =
-    λ recorded. ap (λ (to : List ℕ). spelling (along_to (codes "ACK") m target c.args.own branch to [])) c.first_value-to.ensures ∙ ap spelling (sym (c.ack_of_a_forwarded_request.ensures m c.args.response.now target c.args.own branch recorded c.requires c.is_own.ensures c.is_branch.ensures)) in
+    λ recorded. ap (λ (to : List ℕ). spelling (along_to (codes "ACK") m target c.args.own branch to [])) c.first_value-to.ensures ∙ ap spelling (sym (c.ack_of_a_forwarded_request.ensures m c.args.response.now target c.args.own branch recorded c.requires c.fact_own.ensures c.fact_branch.ensures)) in
     room-under c.append_to_same_hop.result _ _ _ _ c.append_to_same_hop.ensures.room (same recorded)

@@ -12,7 +12,7 @@ returns-clause-ok g c =
     let branch = c.args.branch.now in
     let reasons = view_lines c.args.reasons.now in
     let same : (recorded : Option (List ℕ)) → spelling (along_to (codes "CANCEL") m target c.args.own branch c.first_value-to.result.now reasons) ≡ spelling (cancel_of (forwarded m target c.args.own branch recorded) reasons) =
-    λ recorded. ap (λ (to : List ℕ). spelling (along_to (codes "CANCEL") m target c.args.own branch to reasons)) c.first_value-to.ensures ∙ ap spelling (sym (c.cancel_of_a_forwarded_request.ensures m target c.args.own branch recorded reasons c.requires.request c.is_own.ensures c.is_branch.ensures)) in
+    λ recorded. ap (λ (to : List ℕ). spelling (along_to (codes "CANCEL") m target c.args.own branch to reasons)) c.first_value-to.ensures ∙ ap spelling (sym (c.cancel_of_a_forwarded_request.ensures m target c.args.own branch recorded reasons c.requires.request c.fact_own.ensures c.fact_branch.ensures)) in
     on_ok c.append_to_same_hop.result (λ e recorded. e ∙ ap (λ (x : List ℕ). c.args.out.now.items ++ x) (same recorded)) c.append_to_same_hop.ensures.ok
 
 pub returns-clause-room : goal.returns-clause-room
@@ -22,5 +22,5 @@ returns-clause-room g c recorded =
     let branch = c.args.branch.now in
     let reasons = view_lines c.args.reasons.now in
     let same : (recorded : Option (List ℕ)) → spelling (along_to (codes "CANCEL") m target c.args.own branch c.first_value-to.result.now reasons) ≡ spelling (cancel_of (forwarded m target c.args.own branch recorded) reasons) =
-    λ recorded. ap (λ (to : List ℕ). spelling (along_to (codes "CANCEL") m target c.args.own branch to reasons)) c.first_value-to.ensures ∙ ap spelling (sym (c.cancel_of_a_forwarded_request.ensures m target c.args.own branch recorded reasons c.requires.request c.is_own.ensures c.is_branch.ensures)) in
+    λ recorded. ap (λ (to : List ℕ). spelling (along_to (codes "CANCEL") m target c.args.own branch to reasons)) c.first_value-to.ensures ∙ ap spelling (sym (c.cancel_of_a_forwarded_request.ensures m target c.args.own branch recorded reasons c.requires.request c.fact_own.ensures c.fact_branch.ensures)) in
     room-under c.append_to_same_hop.result _ _ _ _ c.append_to_same_hop.ensures.room (same recorded)

@@ -8,4 +8,4 @@ returns g c =
     let lines = contact_lines (texts c.args.kept.now) in
     let back = views c.split_at.result.1 in
     ap (λ (xs : List HeaderText). (views c.split_at.result.0) ++ (lines ++ xs)) (other-lines (codes "contact") back)
-    ∙ exchanged-split (codes "contact") lines (views c.args.headers) (views c.split_at.result.0) (views c.split_at.result.1) c.place_of.result c.place_of.ensures.value c.split_at.ensures.front c.split_at.ensures.back
+    ∙ exchanged-split (codes "contact") lines (views c.args.headers) (views c.split_at.result.0) (views c.split_at.result.1) c.header_index.result c.header_index.ensures.value c.split_at.ensures.front c.split_at.ensures.back

@@ -8,7 +8,7 @@ returns-in_default g c =
     let o = option_copied c.args.others in
     let front = views c.split_at.result.0 in
     row-one front (map challenge_line c.args.challenges.now) (replaced (codes "via") o hs)
-    (replaced-split (codes "via") o hs front [] c.place_of.result c.place_of.ensures.value c.split_at.ensures.front (sym c.in_default.ensures.none ∙ c.split_at.ensures.back))
+    (replaced-split (codes "via") o hs front [] c.header_index.result c.header_index.ensures.value c.split_at.ensures.front (sym c.in_default.ensures.none ∙ c.split_at.ensures.back))
 
 pub returns : goal.returns
 returns g c =
@@ -17,6 +17,6 @@ returns g c =
     let front = views c.split_at.result.0 in
     let top = view_line c.in-Some.top in
     let after = views c.in-Some.after in
-    let split = replaced-split (codes "via") o hs front (top ∷ after) c.place_of.result c.place_of.ensures.value c.split_at.ensures.front (sym c.in-Some.ensures.some ∙ c.split_at.ensures.back) in
+    let split = replaced-split (codes "via") o hs front (top ∷ after) c.header_index.result c.header_index.ensures.value c.split_at.ensures.front (sym c.in-Some.ensures.some ∙ c.split_at.ensures.back) in
     row-three front _ after (map challenge_line c.args.challenges.now) (replaced (codes "via") o hs)
     (ap (λ (x : List HeaderText). front ++ (x ++ after)) c.run_if_any-top.ensures ∙ split)

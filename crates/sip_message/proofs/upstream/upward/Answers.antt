@@ -9,7 +9,7 @@ read_written-requires g c =
     let m = upward_of c.args.message.now (seen_kept c.args.kept) c.args.challenges.now in
     let second : has_second (via_values c.args.message.now) ≡ true = grind arith in
     let good = upward-good c.args.message.now (seen_kept c.args.kept) c.args.challenges.now c.is_message.ensures second c.requires.kept c.requires.challenges in
-    let text = spelled c.new-text.result.items c.write_upward.new.out.items c.deref.result.now m c.new-text.ensures.items c.in_ok-write_upward.ensures.ok c.deref.ensures.value in
+    let text = spelled c.new-text.result.items c.write_forwarded_response.new.out.items c.deref.result.now m c.new-text.ensures.items c.in_ok-write_forwarded_response.ensures.ok c.deref.ensures.value in
     is_written c.deref.result.now m good text
 
 abbrev built : MessageText → Result MessageText BuildFault
@@ -20,5 +20,5 @@ returns-clause-ok g c =
     let m = upward_of c.args.message.now (seen_kept c.args.kept) c.args.challenges.now in
     let second : has_second (via_values c.args.message.now) ≡ true = grind arith in
     let good = upward-good c.args.message.now (seen_kept c.args.kept) c.args.challenges.now c.is_message.ensures second c.requires.kept c.requires.challenges in
-    let text = spelled c.new-text.result.items c.write_upward.new.out.items c.deref.result.now m c.new-text.ensures.items c.in_ok-write_upward.ensures.ok c.deref.ensures.value in
-    c.in_ok-write_upward.ensures.built ∙ ap built (sym (c.in_ok-read_written.ensures m good text))
+    let text = spelled c.new-text.result.items c.write_forwarded_response.new.out.items c.deref.result.now m c.new-text.ensures.items c.in_ok-write_forwarded_response.ensures.ok c.deref.ensures.value in
+    c.in_ok-write_forwarded_response.ensures.built ∙ ap built (sym (c.in_ok-read_written.ensures m good text))

@@ -16,10 +16,10 @@ pub remove_header-requires-clause-message : goal.remove_header-requires-clause-m
 remove_header-requires-clause-message g c =
     let m = c.args.message in
     let own = c.args.own in
-    subst IsMessage (sym (gone m own (views c.headers-2.result) c.place_of-place.result c.headers-2.ensures c.in-Nothing.ensures)) (stripped-good m own c.is_message.ensures)
+    subst IsMessage (sym (gone m own (views c.headers-2.result) c.header_index-place.result c.headers-2.ensures c.in-Nothing.ensures)) (stripped-good m own c.is_message.ensures)
 
 pub keep_value_part-requires-clause-message : goal.keep_value_part-requires-clause-message
 keep_value_part-requires-clause-message g c =
     let m = c.args.message in
     let own = c.args.own in
-    subst IsMessage (sym (shorter m own (views c.headers-2.result) c.place_of-place.result c.in-Part.start c.in-Part.len c.headers-2.ensures c.in-Part.ensures)) (stripped-good m own c.is_message.ensures)
+    subst IsMessage (sym (shorter m own (views c.headers-2.result) c.header_index-place.result c.in-Part.start c.in-Part.len c.headers-2.ensures c.in-Part.ensures)) (stripped-good m own c.is_message.ensures)

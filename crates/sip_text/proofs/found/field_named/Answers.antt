@@ -1,5 +1,5 @@
 use Rattle.sip_text.proofs.Common.{◌∙◌, false, sym, true}
-use Rattle.sip_text.specs.declared.needed.Needed.TheVariants.{Via, From, To, CallId, CSeq}
+use Rattle.sip_text.specs.declared.needed.MandatoryHeader.TheVariants.{Via, From, To, CallId, CSeq}
 use Rattle.sip_text.proofs.NeededFields.{length_named, length_no_needed, needed_alone, needed_no_length, none_named}
 use Rattle.sip_text.proofs.found.field_named.Goals as goal
 

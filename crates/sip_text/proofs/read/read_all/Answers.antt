@@ -1,5 +1,5 @@
 use Rattle.sip_text.proofs.Common.{◌∙◌, ap, ended, headers_in, line_at}
-use Rattle.sip_text.specs.declared.needed.Needed.TheVariants.{CSeq}
+use Rattle.sip_text.specs.declared.needed.MandatoryHeader.TheVariants.{CSeq}
 use Rattle.sip_text.proofs.Ends.{end_later}
 use Rattle.sip_text.proofs.Heads.{HeadRead, body_read, cseq_is, cseq_wrong, head_good, lacks_read, start_is}
 use Rattle.sip_text.proofs.NeededFields.{missing_found}

@@ -3,7 +3,7 @@ use Rattle.std.proofs.lemmas.Map.Keys.{IsDistinct-from_sorted}
 use Rattle.std.proofs.lemmas.Map.Made.{filter_same_pairs}
 use Rattle.std.specs.Map.{keys_of}
 use Rattle.std.specs.Ordering.{nat_cmp}
-use Rattle.source_limit.specs.declared.bucket.Bucket.{Bucket}
+use Rattle.source_limit.specs.declared.bucket.TokenBucket.{TokenBucket}
 use Rattle.source_limit.specs.Bucket.{is_spent}
 use Rattle.source_limit.specs.Limits.{spent_by, still_spent}
 use Rattle.source_limit.proofs.Sweeping.{same_spent}
@@ -17,5 +17,5 @@ returns-clause-same g c address moment later =
     let buckets = c.args.buckets.now.entries in
     let kept : c.retain.new.self.entries ≡ still_spent c.args.most c.args.now buckets =
     filter_same_pairs _ (λ e. is_spent c.args.most c.args.now e.1) _ (λ k v b w f' t. search rules) _ _ c.retain.ensures.filtered in
-    ap (λ (es : List (ℕ × Bucket)). spent_by c.args.most es address moment) kept
+    ap (λ (es : List (ℕ × TokenBucket)). spent_by c.args.most es address moment) kept
     ∙ same_spent c.args.most c.args.now buckets address moment (IsDistinct-from_sorted nat_cmp (keys_of buckets) c.retain.ensures.was_ordered) later

@@ -9,8 +9,8 @@ returns-in_default g c =
     let none : c.in_Some-branch.branch.now.cancelling ≡ None = sym c.cancelling.ensures ∙ ap option_copied c.in_default.is in
     no_cancel_faults c.args.self.now c.args.n c.args.now c.in_Some-branch.branch.now there none
 
-pub cancel_on_part-requires : goal.cancel_on_part-requires
-cancel_on_part-requires g c =
+pub cancel_on_branch-requires : goal.cancel_on_branch-requires
+cancel_on_branch-requires g c =
     let there : nth_branch c.args.self.now c.args.n ≡ Some c.in_Some-branch.branch.now = sym c.branch-branch.ensures ∙ ap option_copied c.in_Some-branch.is in
     record { there = branch_below c.args.self.now c.args.n c.in_Some-branch.branch.now there }
 
@@ -18,5 +18,5 @@ pub returns : goal.returns
 returns g c =
     let there : nth_branch c.args.self.now c.args.n ≡ Some c.in_Some-branch.branch.now = sym c.branch-branch.ensures ∙ ap option_copied c.in_Some-branch.is in
     let is : c.in_Some-branch.branch.now.cancelling ≡ Some c.in-Some.cancelling.now = sym c.cancelling.ensures ∙ ap option_copied c.in-Some.is in
-    cancel_faults c.args.self.now c.args.n c.args.now c.in_Some-branch.branch.now there c.cancel_on_part.new.self c.in-Some.cancelling.now c.fed-client.result.0 is
-    c.fed-client.ensures.after c.cancel_on_part.ensures
+    cancel_faults c.args.self.now c.args.n c.args.now c.in_Some-branch.branch.now there c.cancel_on_branch.new.self c.in-Some.cancelling.now c.on_event-client.result.0 is
+    c.on_event-client.ensures.after c.cancel_on_branch.ensures

@@ -22,14 +22,14 @@ returns-clause-ok g c =
     let new : Call = record call {
       log = c.post.new.self;
       closing = ByCancel c.in_ok-reasons.reasons;
-      server = record call.server { owed = c.owe_if.new.self.items };
+      server = record call.server { owed = c.enqueue_if.new.self.items };
     } in
     let is = c.in-Ok.ensures.added in
     let up : up_of c.up_at-up.result ≡ is.0.up =
     c.up_at-up.ensures is.0 (ap (slice_get c.post.new.self.replies) c.in-Ok.ensures.at ∙ is.1.placed) in
-    let owed : c.owe_if.new.self.items ≡ (c.self.inside.owed.items ++ CancelOk c.args.cancel c.args.to ∷ []) ++ owed_by is.0.up None =
-    owed_both c.self.inside.owed.items c.reserve.new.self.items c.owe.new.self.items c.owe_if.new.self.items _ (owed_by is.0.up None) (CancelOk c.args.cancel c.args.to)
-    c.reserve.ensures.items c.owe.ensures.items c.owe_if.ensures.items (c.owed_by.ensures ∙ ap (λ (u : Up). owed_by u None) up) in
+    let owed : c.enqueue_if.new.self.items ≡ (c.self.inside.owed.items ++ CancelOk c.args.cancel c.args.to ∷ []) ++ owed_by is.0.up None =
+    owed_both c.self.inside.owed.items c.reserve.new.self.items c.enqueue.new.self.items c.enqueue_if.new.self.items _ (owed_by is.0.up None) (CancelOk c.args.cancel c.args.to)
+    c.reserve.ensures.items c.enqueue.ensures.items c.enqueue_if.ensures.items (c.response_for.ensures ∙ ap (λ (u : Up). owed_by u None) up) in
     let closes : cancels call ≡ true = subst (λ (x : Call). cancels x ≡ true) (sym c.self.view_is) c.requires.cancels in
     let sound : IsSound call = subst IsSound (sym c.self.view_is) c.requires.sound in
     let none = c.new_rows_are_contacts.ensures.none (table_of c.self.inside.book) Cancel (length c.self.inside.book.history) refl in

@@ -45,21 +45,21 @@ returns-clause-ok g c = λ contacts made.
       log = c.post.new.self;
       destinations = c.add_rows.new.destinations.items;
       branches = c.add_rows.new.branches.items;
-      server = record call.server { owed = c.owe_if.new.self.items };
+      server = record call.server { owed = c.enqueue_if.new.self.items };
     } in
     let first : c.count-first.result ≡ length (table_of old).rows = c.count-first.ensures.value ∙ ap (λ (x : Core). length x.table.rows) c.context-2.ensures.stands in
     let taken : is_full (core_of old) (event_of c.args.new_event.event) ≡ false =
     ap (λ (x : Core). is_full x (event_of c.args.new_event.event)) (sym c.context.ensures.stands) ∙ sym c.is_full.ensures ∙ c.if-is_full.false in
     let up : up_of c.up_at-up.result ≡ is.0.up = c.up_at-up.ensures is.0 (ap (slice_get c.post.new.self.replies) c.in-Ok.ensures.at ∙ is.1.placed) in
-    let owed : c.owe_if.new.self.items ≡ c.self.inside.owed.items ++ owed_by is.0.up c.args.response =
-    c.owe_if.ensures.items
-    ∙ ap (λ (os : List Owed). os ++ owed_in c.owed_by.result) c.reserve.ensures.items
-    ∙ ap (λ (os : List Owed). c.self.inside.owed.items ++ os) (c.owed_by.ensures ∙ ap (λ (u : Up). owed_by u c.args.response) up) in
+    let owed : c.enqueue_if.new.self.items ≡ c.self.inside.owed.items ++ owed_by is.0.up c.args.response =
+    c.enqueue_if.ensures.items
+    ∙ ap (λ (os : List Owed). os ++ owed_in c.response_for.result) c.reserve.ensures.items
+    ∙ ap (λ (os : List Owed). c.self.inside.owed.items ++ os) (c.response_for.ensures ∙ ap (λ (u : Up). owed_by u c.args.response) up) in
     let same : c.args.new_event.destinations.items ≡ map (destination_of_contact call.opened) contacts =
     made ∙ ap (λ (x : Call). map (destination_of_contact x.opened) contacts) (sym c.self.view_is) in
     let P : Call → Type 0 = λ x. PostsSaid x (event_of c.args.new_event.event) contacts c.args.response c.in-Ok.at new in
     subst P c.self.view_is
-    (said_posts call (event_of c.args.new_event.event) contacts c.args.response is.0 c.post.new.self c.add_rows.new.destinations.items c.add_rows.new.branches.items c.owe_if.new.self.items
+    (said_posts call (event_of c.args.new_event.event) contacts c.args.response is.0 c.post.new.self c.add_rows.new.destinations.items c.add_rows.new.branches.items c.enqueue_if.new.self.items
     c.args.new_event.destinations.items c.count-first.result c.in-Ok.at taken is.1 first same
     (c.add_rows.ensures.destinations ∙ ap (λ (ws : List Destination). ws ++ filter_map (destination_for c.args.new_event.destinations.items) (drop c.count-first.result (table_of c.post.new.self).rows)) c.reserve-2.ensures.items)
     (c.add_rows.ensures.branches ∙ ap (λ (ls : List (Option Branch)). ls ++ map no_branch (drop c.count-first.result (table_of c.post.new.self).rows)) c.reserve-3.ensures.items)

@@ -15,12 +15,12 @@ invariant_of-self-2 g c =
     let r = seen_recipient c.args.to in
     let R : Call → Type 0 = λ x. length x.log.replies ≡ length x.log.history in
     let at : c.posted-at.result ≡ length call.log.history = c.posted-at.ensures.at ∙ sym (ap (λ (x : Call). length x.log.history) c.self.view_is) in
-    let room : c.room_for.result ≡ room_for (status_of c.args.message) = c.room_for.ensures ∙ ap room_for c.status_of.ensures in
+    let room : c.room_for.result ≡ room_for (status_of c.args.message) = c.room_for.ensures ∙ ap room_for c.response_status.ensures in
     let padded : c.pad.new.self ≡ c.self.inside.schedule ++ replicate (room_for (status_of c.args.message)) None =
     c.in_ok-pad.ensures.ok ∙ ap (λ (p : ℕ). c.self.inside.schedule ++ replicate p None) room in
     let times : c.time_step.new.schedule ≡ retimed new (row_of_recipient r) (length call.log.history) (c.self.inside.schedule ++ replicate (room_for (status_of c.args.message)) None) =
     c.time_step.ensures
-    ∙ ap (λ (row : Option ℕ). retimed new row c.posted-at.result c.pad.new.self) c.row_of.ensures
+    ∙ ap (λ (row : Option ℕ). retimed new row c.posted-at.result c.pad.new.self) c.row_of_transaction.ensures
     ∙ ap (λ (k : ℕ). retimed new (row_of_recipient r) k c.pad.new.self) at
     ∙ ap (λ (ms : List (Option ℕ)). retimed new (row_of_recipient r) (length call.log.history) ms) padded in
     let few : length (rows_of new) ≤ most_targets =

@@ -1,4 +1,4 @@
-use Rattle.fork_tree.proofs.Common.{◌≡◌, ◌++◌, ◌∷◌, ◌+◌, ℕ, List, Some, None, length, map, arith, ap, sym, subst, ◌∙◌, Row, with_state, Place, BranchState, Ended, plain_state, has_ended, Entry, Rules, NewRow, ◌⊎◌, ◌<◌, path_of, rows_of, AreOlder}
+use Rattle.fork_tree.proofs.Common.{◌≡◌, ◌++◌, ◌∷◌, ◌+◌, ℕ, List, Some, None, length, map, arith, ap, sym, subst, ◌∙◌, Row, with_state, NodePlace, BranchState, Ended, plain_state, has_ended, Entry, Rules, NewRow, ◌⊎◌, ◌<◌, path_of, rows_of, AreOlder}
 use Rattle.fork_tree.proofs.Common.{Waiting, waiting_row, place_in, AreTogether, IsTree, kept_of, Tree, ◌≤◌, [], length-append, AreKnown, AreMet, Changes, common_steps}
 use Rattle.fork_tree.proofs.GroupNumbers.{together_more, new_rows_together}
 use Rattle.fork_tree.proofs.Summaries.{open_some}
@@ -13,7 +13,7 @@ use Rattle.fork_tree.proofs.Counts.{rows_count}
 use Rattle.fork_tree.proofs.Traces.{path_traced}
 
 -- the new rows are numbered from the first number that is free
-next_number : (rules : Rules) (all : List Place) (root : List Entry) (now : Tree) (first : ℕ) (new_rows : List NewRow) (below : Waiting)
+next_number : (rules : Rules) (all : List NodePlace) (root : List Entry) (now : Tree) (first : ℕ) (new_rows : List NewRow) (below : Waiting)
     → record { rules = rules; rows = rows_of all root } ≡ now
     → record { first = first; new_rows = new_rows } ≡ below → below.first ≡ length now.rows → first ≡ length all
 next_number rules all root now first new_rows below v b next = ap (λ (w : Waiting). w.first) b ∙ next ∙ rows_count rules all root now v
@@ -81,7 +81,7 @@ invariant_of-self g c =
     let answer : c.of-standing.result.answer ≡ kept_of c.self.inside.rules c.args.n c.of-standing.result.state =
     ap (λ (s : BranchState). s.answer) c.of-standing.ensures ∙ ap (λ (s : BranchState). kept_of c.self.inside.rules c.args.n s.state) (sym c.of-standing.ensures) in
     let tree : IsTree c.self.inside.rules c.add_places.new.places.items c.end.new.self c.after-self-inside.result =
-    subst (λ (x : List Place). IsTree c.self.inside.rules x c.end.new.self c.after-self-inside.result) (sym places)
+    subst (λ (x : List NodePlace). IsTree c.self.inside.rules x c.end.new.self c.after-self-inside.result) (sym places)
     (tree_ended c.self.inside.rules c.self.inside.places.items c.self.inside.root c.end.new.self c.self.inside.summary c.after-self-inside.result c.args.n
     c.of-standing.result
     c.below.inside.new_rows.items c.below.inside.first c.len-opens.result c.self.invariant.tree at.0 rise answer first c.below.invariant.added.few change

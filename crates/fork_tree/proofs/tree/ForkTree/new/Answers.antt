@@ -1,4 +1,4 @@
-use Rattle.fork_tree.proofs.Common.{◌≡◌, ◌++◌, List, None, length, map, arith, ap, sym, subst, ◌∙◌, Row, Place, Entry, new_rows_of, waiting_row, place_in, AreTogether, NewRow, rows_of, IsTree, [], ◌∷◌, ℕ, Option, length-map, AreKnown, AreMet}
+use Rattle.fork_tree.proofs.Common.{◌≡◌, ◌++◌, List, None, length, map, arith, ap, sym, subst, ◌∙◌, Row, NodePlace, Entry, new_rows_of, waiting_row, place_in, AreTogether, NewRow, rows_of, IsTree, [], ◌∷◌, ℕ, Option, length-map, AreKnown, AreMet}
 use Rattle.fork_tree.proofs.GroupNumbers.{new_rows_together}
 use Rattle.fork_tree.proofs.Ways.{met_new}
 use Rattle.fork_tree.proofs.Opening.{AreRising, new_rows_rise, new_rows_count, rows_opened, tree_opened}
@@ -14,7 +14,7 @@ invariant_of-result g c =
     let many : length c.in_ok-root.new_rows.items ≡ length c.args.qs.now = ap length c.in_ok-root.ensures.new_rows ∙ new_rows_count None 0 0 c.args.qs.now in
     let places : c.add_places.new.places.items ≡ map (place_in None) c.in_ok-root.new_rows.items =
     added None _ _ [] _ _ c.add_places.ensures.items c.in_ok-places.ensures.no_places c.deref.ensures.value in
-    let P : List Place → Type 0 = λ x. IsTree c.args.rules x c.in_ok-root.root c.waiting-summary.result in
+    let P : List NodePlace → Type 0 = λ x. IsTree c.args.rules x c.in_ok-root.root c.waiting-summary.result in
     let Q : List Entry → Type 0 = λ x. IsTree c.args.rules (map (place_in None) c.in_ok-root.new_rows.items) x c.waiting-summary.result in
     let T : List NewRow → Type 0 = λ x. AreTogether (map (place_in None) x) in
     let recent : c.push_reserved.new.self.items ≡ None ∷ [] =

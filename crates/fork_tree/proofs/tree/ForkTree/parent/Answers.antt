@@ -11,7 +11,7 @@ returns-then-n-len g c =
 
 pub returns : goal.returns
 returns g c =
-    let is : slice_get c.self.inside.places.items c.args.n ≡ Some c.place_of.result =
-    ap (λ x. slice_get x c.args.n) (sym c.deref.ensures.value) ∙ c.place_of.ensures in
-    let at = row_of c.self.inside.places.items c.self.inside.root c.args.self.now.rows c.args.n c.place_of.result (ap (λ (t : Tree). t.rows) c.self.view_is) is in
+    let is : slice_get c.self.inside.places.items c.args.n ≡ Some c.node_place.result =
+    ap (λ x. slice_get x c.args.n) (sym c.deref.ensures.value) ∙ c.node_place.ensures in
+    let at = row_of c.self.inside.places.items c.self.inside.root c.args.self.now.rows c.args.n c.node_place.result (ap (λ (t : Tree). t.rows) c.self.view_is) is in
     sym at.parent ∙ sym (ap parent_of at.there)

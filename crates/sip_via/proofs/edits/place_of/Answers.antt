@@ -1,6 +1,0 @@
-use Rattle.sip_via.proofs.Common.{arith}
-use Rattle.sip_via.proofs.laws.Places.{place-later}
-use Rattle.sip_via.proofs.edits.place_of.Goals as goal
-
-pub loop-i-preserved : goal.loop-i-preserved
-loop-i-preserved c = grind (arith, place-later)
