@@ -3,7 +3,7 @@ use crate::answers::Wanted;
 use crate::calling::{Decided, Row, Token, decides};
 use crate::holds::holds;
 use crate::passwords::{BOBS, Password};
-use admission::{Rule, requests_are_decided_in_one_way, strangers_open_nothing_else};
+use authentication::{Rule, requests_are_decided_in_one_way, strangers_open_nothing_else};
 use sip_build::OwnStatus;
 
 const NOTHING: Wanted = Wanted::Lines(&[]);

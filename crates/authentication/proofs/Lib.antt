@@ -1,4 +1,8 @@
-pub mod laws
+mod Fronts
+pub mod Once
+pub mod Opened
+pub mod OwnCredentials
+pub mod Tokens
 pub mod Values
 pub mod Verdicts
-mod Fronts
+pub mod laws

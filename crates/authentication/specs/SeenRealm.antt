@@ -2,8 +2,8 @@
 use Rattle.std.specs.Prelude.{ℕ, List, Option, Some, None}
 use Rattle.std.specs.Borrow.{Bor}
 use Rattle.sip_digest.specs.declared.algorithm.Algorithms.{Algorithms}
-use Rattle.user_list.specs.declared.users.UserList.{UserList}
-use Rattle.user_list.specs.UserIndex.{secrets_at}
+use Rattle.sip_digest.specs.declared.users.UserList.{UserList}
+use Rattle.sip_digest.specs.UserIndex.{secrets_at}
 use Rattle.authentication.specs.declared.realm.RealmSecrets.{RealmSecrets}
 use Rattle.authentication.specs.Realm as spec
 

@@ -3,9 +3,8 @@ ghost use Rattle.std.specs.Prelude.{◌≡◌, true};
 ghost use Rattle.std.specs.List.{list_all};
 ghost use Rattle.authentication.specs.Realm.{is_realm_byte};
 
-use sip_digest::Algorithms;
+use sip_digest::{Algorithms, UserList};
 use std::alloc::{Allocator, Global};
-use user_list::UserList;
 
 /// The realm that credentials are asked for, and who has a password there (RFC 3261 section 22.1).
 #[derive(Drop)]

@@ -1,4 +1,5 @@
-pub mod OpenedRequestInside
-pub mod BranchInside
 pub mod AckOwed
+pub mod BranchInside
+pub mod OpenedRequestInside
 pub mod Views
+pub mod inner

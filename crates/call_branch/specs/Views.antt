@@ -1,14 +1,7 @@
 -- The transactions of a call that those of the program stand for.
 use Rattle.call_model.specs.Client as client
-use Rattle.call_model.specs.Server as server
 use Rattle.call_branch.specs.declared.client.ClientMachine.{ClientMachine}
 use Rattle.call_branch.specs.declared.client.ClientMachine.TheVariants as client_machine
-use Rattle.call_branch.specs.declared.served.ServerMachine.{ServerMachine}
-use Rattle.call_branch.specs.declared.served.ServerMachine.TheVariants as server_machine
-
-abbrev pub served_of : ServerMachine → server.ServerTransaction
-served_of (server_machine.Invite m) = server.InviteServer m
-served_of (server_machine.Other m) = server.OtherServer m
 
 abbrev pub client_of : ClientMachine → client.ClientTransaction
 client_of (client_machine.Invite m) = client.InviteClient m

@@ -6,7 +6,7 @@ use sip_txn::Reliability;
 use sip_uri::Transport;
 
 /// Whether a transaction may rely on this transport to bring what it is given: UDP alone may lose it (RFC 3261 section 17).
-pub(crate) fn reliability_of(transport: Transport) -> Reliability
+pub fn reliability_of(transport: Transport) -> Reliability
     ensures { result ≡ reliability_of transport }
 {
     match transport {

@@ -7,7 +7,7 @@ use crate::notes::{Note, append_targets};
 use crate::why::append_why;
 use fork_context::Context;
 use fork_listing::listing;
-use fork_text::append;
+use fork_rank::append;
 use sip_lex::append_decimal;
 use std::alloc::{AllocError, Allocator};
 

@@ -2,7 +2,7 @@
 ghost use Rattle.std.specs.Prelude.{◌≡◌, ◌++◌, OnOk, map, take};
 ghost use Rattle.call_journal.specs.Head.{asked_text, caller_text, front_text, head_text, shown, shown_byte};
 
-use fork_text::append;
+use fork_rank::append;
 use sip_lex::append_decimal;
 use std::alloc::{AllocError, Allocator};
 

@@ -5,7 +5,7 @@ ghost use Rattle.context_values.specs.EventView.{event_of};
 ghost use Rattle.call_journal.specs.Notes.{behind_text, is_of, line_of, note_of, note_text, own_notes, targets_text, words};
 
 use fork_context::Event;
-use fork_text::append;
+use fork_rank::append;
 use sip_lex::append_decimal;
 use std::alloc::{AllocError, Allocator};
 

@@ -4,7 +4,7 @@ ghost use Rattle.call_journal.specs.Shown.{address_text, asked_text, branch_line
 
 use crate::head::append_shown;
 use fork_context::{Context, End, State};
-use fork_text::append;
+use fork_rank::append;
 use sip_lex::append_decimal;
 use std::alloc::{AllocError, Allocator};
 

@@ -7,8 +7,7 @@ ghost use Rattle.call_journal.specs.Why.{answer_text, arrival_words, class_words
 use crate::head::append_shown;
 use fork_context::{Choice, Context, End, State};
 use fork_listing::status_at;
-use fork_rank::{Rules, StatusClass, rank_class, rank_part};
-use fork_text::append;
+use fork_rank::{Rules, StatusClass, append, rank_class, rank_part};
 use sip_lex::append_decimal;
 use std::alloc::{AllocError, Allocator};
 

@@ -1,11 +1,12 @@
+pub mod Answers
 pub mod Came
-pub mod Origins
+pub mod EachDatagram
 pub mod Finals
 pub mod Last
-pub mod Stages
+pub mod Origins
+pub mod Quiet
 pub mod Right
 pub mod Sending
-pub mod Answers
+pub mod Stages
 pub mod Successes
 pub mod WhyCancelled
-pub mod EachDatagram

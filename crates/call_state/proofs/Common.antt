@@ -38,7 +38,7 @@ pub use Rattle.call_state.specs.declared.answers.BuiltResponse.{BuiltResponse}
 pub use Rattle.call_state.specs.inner.AnswersInside.{IsPaid, IsText}
 pub use Rattle.call_branch.specs.AckOwed.{ack_on}
 pub use Rattle.call_branch.specs.BranchInside.{ack_made, answer_if, cancel_on, changed_branch, kept, kept_if, no_branches, responded, with_client}
-pub use Rattle.call_answers.specs.NewDestinations.{HaveDestinations, PostsSaid, destination_for}
+pub use Rattle.call_caller.specs.NewDestinations.{HaveDestinations, PostsSaid, destination_for}
 pub use Rattle.call_state.specs.inner.Plain.{PostsBare}
 pub use Rattle.sip_build.specs.Requests.{reason_lines}
 pub use Rattle.sip_build.specs.SeenKept.{texts}

@@ -3,7 +3,7 @@ use Rattle.call_state.proofs.Common.{◌≡◌, ◌∙◌, ℕ, ◌+◌, ◌≤�
 use Rattle.call_state.proofs.Common.{Branch, HaveDestinations, PostsSaid, destination_for, IsSized, call_tag, gone_on, no_branch, owed_by, owes, rows_more, destination_of_contact, destinations_of, Owed}
 use Rattle.std.proofs.Common.{◌-◌, length-append, length-drop}
 use Rattle.std.proofs.lemmas.List.{length-map}
-use Rattle.call_answers.proofs.laws.Destinations.{each_goes, destinations_are}
+use Rattle.call_caller.proofs.laws.Destinations.{each_goes, destinations_are}
 
 -- each row has its destination and room for its part, those that were added too
 pub sized_more : (old new : Log) (destinations all_destinations : List Destination) (branches all_branches : List (Option Branch)) (made : List (Option Destination)) (first : ℕ)

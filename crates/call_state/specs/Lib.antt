@@ -1,2 +1,5 @@
-pub mod inner
 pub mod CallStateInside
+pub mod Kinds
+pub mod Matching
+pub mod SeenMatchedTransaction
+pub mod inner

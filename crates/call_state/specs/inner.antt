@@ -1,5 +1,5 @@
 pub mod AnswersInside
 pub mod CallStateInside
+pub mod Matching
 pub mod Plain
-pub mod Reasons
 pub mod StatesShown

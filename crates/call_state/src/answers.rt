@@ -21,8 +21,8 @@ ghost use Rattle.call_model.specs.Sound.{IsSound};
 
 use crate::state::CallState;
 use crate::states::shows_received;
-use call_answers::PendingResponse;
 use call_branch::{OpenedRequest, response_status};
+use call_caller::PendingResponse;
 use call_model::{Cause, Datagram, Step};
 use fork_context::{Challenge, Choice, Offer};
 use sip_build::{OwnStatus, first_timestamp, write_forwarded_response, write_own_response};

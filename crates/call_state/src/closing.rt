@@ -7,8 +7,7 @@ ghost use Rattle.call_model.specs.Built.{cancel_to};
 ghost use Rattle.call_model.specs.Closing.{closing_after, closing_by, reason_line, reasons_by};
 ghost use Rattle.call_state.specs.CallStateInside.{closing_of};
 
-use crate::reasons::ReasonLines;
-use call_branch::{Destination, OpenedRequest};
+use call_branch::{Destination, OpenedRequest, ReasonLines};
 use sip_lex::append_decimal;
 use sip_text::HeaderLine;
 use std::alloc::{AllocError, Allocator};

@@ -13,11 +13,14 @@ mod closing;
 mod failed;
 mod fault;
 mod look;
-mod reasons;
+mod matching;
 mod state;
 mod states;
 mod timers;
+mod transaction;
 
 pub use fault::PostFault;
 pub use look::BranchView;
+pub use matching::{match_response, match_transaction};
 pub use state::CallState;
+pub use transaction::MatchedTransaction;

@@ -25,7 +25,7 @@ ghost use Rattle.call_state.specs.inner.CallStateInside.{answer_to};
 ghost use Rattle.call_state.specs.inner.Plain.{PostsBare};
 ghost use Rattle.call_model.specs.Pump as pump;
 ghost use Rattle.call_model.specs.Pump.{AnswersWith, OnBranch, OnPart, SendsAck, SendsCancel, SendsRequest, TicksServer, cancel_bytes};
-ghost use Rattle.call_answers.specs.NewDestinations.{GivesDestinations, PostsSaid};
+ghost use Rattle.call_caller.specs.NewDestinations.{GivesDestinations, PostsSaid};
 ghost use Rattle.call_model.specs.Posting.{destination_of_contact};
 ghost use Rattle.call_model.specs.Response.{contacts_for, event_by};
 ghost use Rattle.call_model.specs.SeenDatagram.{seen};
@@ -41,12 +41,8 @@ ghost use Rattle.call_state.specs.inner.StatesShown.{state_shown};
 use crate::closing::Closing;
 use crate::fault::PostFault;
 use crate::look::timer_c_at;
-use crate::reasons::ReasonLines;
-use call_answers::{OwedAnswer, PendingResponses, ResponseEvent, ResponseQueue, add_rows, initial_queue, resend_if, response_for};
-use call_branch::{
-    Branch, CancelTransaction, ClientTransaction, Destination, OpenedRequest, ServerTransaction,
-    answer_event, branch_in, destination_at, is_response, no_branches, put_branch, response_event,
-};
+use call_branch::{Branch, CancelTransaction, ClientTransaction, Destination, OpenedRequest, ReasonLines, answer_event, branch_in, destination_at, is_response, no_branches, put_branch, response_event};
+use call_caller::{OwedAnswer, PendingResponses, ResponseEvent, ResponseQueue, ServerTransaction, add_rows, initial_queue, resend_if, response_for};
 use call_model::{Cause, Datagram, Step, Taken};
 use fork_book::Book;
 use fork_context::{Event, Kind, PostError, State, Up};

@@ -1,3 +1,4 @@
+mod DeadlinesListed
 mod InOrder
 pub mod Listing
 pub mod Walking

@@ -1,4 +1,5 @@
-pub mod inner
-pub mod Inbox
+pub mod Deadlines
 pub mod Faults
+pub mod Inbox
 pub mod Removals
+pub mod inner

@@ -1,8 +1,7 @@
 //! What a call sends through a port, and what becomes of a send that fails (RFC 3261 sections 16.9 and 18).
 use crate::holds::holds;
 use crate::requests::{Change, SETUP, SOURCE, message_of, request_with, setup_of};
-use call_routing::is_openable;
-use fork_call::{Call, Carried, Datagram, Port, Setup, carry};
+use fork_call::{Call, Carried, Datagram, Port, Setup, carry, is_openable};
 use sip_uri::{Hop, Transport};
 use std::alloc::{Allocator, Global};
 

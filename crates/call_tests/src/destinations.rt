@@ -2,7 +2,7 @@
 //! 16.6 steps 6, 7 and 11).
 use crate::holds::holds;
 use crate::requests::{SETUP, request_with, setup_of};
-use call_routing::{admitted_target, read_target};
+use fork_call::{admitted_target, read_target};
 use proxy_config::Setup;
 use proxy_routing::{candidates, hop_by, hop_if_any};
 use sip_route::FirstRoute;

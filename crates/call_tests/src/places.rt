@@ -1,6 +1,6 @@
 //! The place of the target or the contact that a row is for, among those that it came with (RFC 3261 section 16.5).
 use crate::holds::holds;
-use call_answers::row_place;
+use call_caller::row_place;
 use fork_book::Book;
 use fork_context::{Answer, Event, Kind, Offer, Target};
 use fork_rank::{Rules, Status};

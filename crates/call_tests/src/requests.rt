@@ -2,8 +2,8 @@
 ghost use Rattle.std.specs.Prelude.{◌≡◌};
 
 use call_model::Datagram;
-use call_routing::{OpeningRequest, is_openable, open};
 use call_state::CallState;
+use fork_call::{OpeningRequest, is_openable, open};
 use proxy_config::Setup;
 use proxy_routing::RequestRejection;
 use sip_text::Message;

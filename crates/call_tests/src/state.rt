@@ -6,11 +6,9 @@ ghost use Rattle.call_model.specs.Behind.{KeepsAnswers};
 ghost use Rattle.call_model.specs.Sound.{IsSound};
 
 use crate::holds::holds;
-use call_answers::PendingResponse;
 use call_branch::{Destination, OpenedRequest, Opening, is_redirection, response_status};
-use call_model::{
-    Cause, Datagram, Step, Taken, TriedContacts, branches_keep_their_answers, calls_stay_sound,
-};
+use call_caller::PendingResponse;
+use call_model::{Cause, Datagram, Step, Taken, TriedContacts, branches_keep_their_answers, calls_stay_sound};
 use call_state::CallState;
 use fork_book::Book;
 use fork_context::{Kind, Target};

@@ -1,8 +1,7 @@
 //! Lists of users.
 use crate::holds::{holds, holds_of, is};
-use sip_digest::{Algorithms, Secrets};
+use sip_digest::{Algorithms, Secrets, UserFault, UserList, append_user as append_line, is_user_name};
 use std::alloc::{AllocError, Global};
-use user_list::{UserFault, UserList, append_user as append_line, is_user_name};
 
 /// A text, with comments and empty lines.
 const USERS: &[u8] =

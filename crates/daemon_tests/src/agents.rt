@@ -1,9 +1,9 @@
 //! Who calls and who is called, as sockets of this process.
+use call_affinity::call_id;
 use sip_lex::cut_at;
 use std::alloc::{AllocError, Global};
 use std::net::{Ipv4Addr, Net, SocketAddr, SocketAddrV4, UdpSocket};
 use std::time::Duration;
-use worker_jobs::call_id;
 
 /// How often a datagram is waited for, a tenth of a second each time.
 const LOOKS: u32 = 30;

@@ -1,10 +1,8 @@
 //! A configuration that is read anew.
 use crate::played::{Moment, PLAIN, Served, Turn, plays, plays_by};
-use crate::texts::{
-    ASKED, BESIDE, BOB, CALLER, CAROL, CAROL_AFTERWARDS, CONFIGURATION, INVITE, OPTIONS, Request,
-};
-use daemon_parts::DaemonFault;
-use proxy_service::ServiceState;
+use crate::texts::{ASKED, BESIDE, BOB, CALLER, CAROL, CAROL_AFTERWARDS, CONFIGURATION, INVITE, OPTIONS, Request};
+use service_admission::ServiceState;
+use service_files::DaemonFault;
 
 /// Keeps to all that an option asks for.
 const ALL: Served = Served {

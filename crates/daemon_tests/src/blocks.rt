@@ -5,14 +5,14 @@ use crate::holds::holds;
 use crate::outbox::Outbox;
 use call_journal::{Note, NotedEvent};
 use call_table::Shelf;
-use daemon_parts::{DaemonFault, Options};
 use fork_call::{Call, Setup};
-use fork_daemon::{check_config, serve_text};
 use proxy_dispatch::{Handled, Received, SharedCalls, Unlimited, handle};
 use proxy_service::append_block;
+use service_files::{DaemonFault, Options};
+use service_threads::{check_config, serve_text};
 use sip_uri::{Hop, Transport};
-use std::alloc::Global;
 use std::fs;
+use std::alloc::Global;
 use std::sync::Wait;
 
 const CONFIGURATION: &[u8] =

@@ -1,7 +1,7 @@
 //! How a service ends.
 use crate::played::{Moment, PLAIN, Served, Turn, plays};
 use crate::texts::{ACK, ASKED, BOB, BYE, CALLER, CANCEL, INVITE, OPTIONS, Request};
-use proxy_service::ServiceState;
+use service_admission::ServiceState;
 
 /// A new INVITE, and the ACK of its 503.
 const NEW: Request = Request {

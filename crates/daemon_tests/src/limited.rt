@@ -2,11 +2,12 @@
 use crate::agents::{Agents, Asked};
 use crate::holds::holds;
 use crate::telling::{counts, has_line, tells, told, value_in};
-use daemon_parts::{Counts, DaemonFault, Gauges, Options};
-use fork_daemon::{admits, serve};
-use source_limit::SourceLimits;
-use std::alloc::Global;
+use metrics::{Counts, Gauges};
+use service_admission::{SourceLimits, admits};
+use service_files::{DaemonFault, Options};
+use service_threads::serve;
 use std::fs;
+use std::alloc::Global;
 use std::net::Net;
 use std::test::Fail;
 use std::thread::join;

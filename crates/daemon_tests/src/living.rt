@@ -3,8 +3,9 @@
 use crate::agents::Agents;
 use crate::holds::holds;
 use crate::telling::{counts, has_line, tells, told};
-use daemon_parts::{DaemonFault, Options};
-use fork_daemon::serve;
+use service_files::{DaemonFault, Options};
+use service_threads::serve;
+use std::{fs, io};
 use std::alloc::Global;
 use std::fs::Files;
 use std::io::{Read, Write};
@@ -13,7 +14,6 @@ use std::os::unix::net::UnixStream;
 use std::test::Fail;
 use std::thread::join;
 use std::time::Clock;
-use std::{fs, io};
 
 /// Where the proxy listens.
 const PROXY: u16 = 47_420;

@@ -3,8 +3,8 @@
 use crate::agents::Agents;
 use crate::holds::holds;
 use crate::telling::{counts, told};
-use daemon_parts::{DaemonFault, Options};
-use fork_daemon::serve_text;
+use service_files::{DaemonFault, Options};
+use service_threads::serve_text;
 use std::alloc::Global;
 use std::net::Net;
 use std::test::Fail;

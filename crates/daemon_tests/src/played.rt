@@ -1,18 +1,17 @@
 //! A service without sockets: requests, answers and moments are handed to it, and what it sends, counts and writes down is read.
 //! A history is a table of moments.
 use crate::outgoing::Outgoing;
-use crate::texts::{
-    CALLER, CONFIGURATION, Request, answer_text, has, place_of, request_text, tag_of,
-};
-use daemon_parts::{DaemonFault, Identity, read_text};
+use crate::texts::{CALLER, CONFIGURATION, Request, answer_text, has, place_of, request_text, tag_of};
+use call_affinity::call_id;
 use proxy_dispatch::Received;
-use proxy_service::{RunSettings, Service, ServiceState};
+use proxy_service::{RunSettings, Service};
+use service_admission::ServiceState;
+use service_files::{DaemonFault, Identity, read_text};
 use sip_uri::Hop;
 use std::alloc::{Allocator, Global};
 use std::process::Abort;
 use std::sync::Wait;
 use std::time::{Clock, SystemTime};
-use worker_jobs::call_id;
 
 /// What happens at a moment, or is seen then.
 #[derive(Clone, Copy)]

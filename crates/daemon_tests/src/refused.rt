@@ -2,7 +2,7 @@
 use crate::holds::holds;
 use crate::played::{Moment, PLAIN, Played, Served, Turn};
 use crate::texts::{BOB, CALLER, CONFIGURATION, INVITE, OPTIONS, Request};
-use refusing::Refusing;
+use failing_allocator::Refusing;
 use std::alloc::Global;
 use std::sync::Wait;
 use std::time::Clock;

@@ -2,10 +2,10 @@
 use crate::agents::{Agents, Asked};
 use crate::holds::holds;
 use crate::telling::{counts, has_line, tells, told};
-use daemon_parts::{DaemonFault, Options};
-use fork_daemon::serve;
-use std::alloc::Global;
+use service_files::{DaemonFault, Options};
+use service_threads::serve;
 use std::fs;
+use std::alloc::Global;
 use std::fs::Files;
 use std::net::Net;
 use std::test::Fail;

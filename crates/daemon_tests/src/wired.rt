@@ -2,8 +2,9 @@
 use crate::agents::{Agents, Asked};
 use crate::holds::holds;
 use crate::telling::{counts, has_line, tells, told, value_in};
-use daemon_parts::{DaemonFault, Options};
-use fork_daemon::serve;
+use service_files::{DaemonFault, Options};
+use service_threads::serve;
+use std::{fs, io, thread};
 use std::alloc::Global;
 use std::fs::Files;
 use std::io::{Read, Write};
@@ -12,7 +13,6 @@ use std::os::unix::net::UnixStream;
 use std::test::Fail;
 use std::thread::join;
 use std::time::{Clock, Duration, Instant};
-use std::{fs, io, thread};
 
 /// Where the proxy listens.
 const PROXY: u16 = 47_450;

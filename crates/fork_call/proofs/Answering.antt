@@ -16,7 +16,7 @@ use Rattle.call_laws.specs.Successes.{GoesUp, PostsSuccess}
 use Rattle.call_laws.specs.Successes as successes
 use Rattle.call_model.specs.OpenedRequest.{is_invite}
 use Rattle.call_laws.specs.Stages.{Leads, Stage, end_of}
-use Rattle.call_routing.specs.Opening.{Opens, candidates_for, opened_of}
+use Rattle.fork_call.specs.Opening.{Opens, candidates_for, opened_of}
 use Rattle.proxy_routing.specs.Targets.{CandidateTarget, targets_of}
 use Rattle.proxy_config.specs.Setup.{Setup}
 use Rattle.fork_call.specs.Answered.{EachDatagramIsRight, EachSuccessGoesUp, OneFinalAnswerGoesUp, OpenedCallsPayInOrder}

@@ -10,7 +10,7 @@ use Rattle.call_model.specs.SeenTaken.{seen_taken}
 use Rattle.call_model.specs.Sound.{IsGivenTo}
 use Rattle.call_model.specs.Step as step
 use Rattle.call_model.specs.Take as to
-use Rattle.call_routing.specs.Matching.{BelongsTo}
+use Rattle.call_state.specs.Matching.{BelongsTo}
 use Rattle.fork_call.specs.declared.fault.TakeFault.{TakeFault}
 use Rattle.fork_call.specs.declared.fault.TakeFault.TheVariants.{Full}
 use Rattle.fork_call.specs.Takes.{Takes}

@@ -35,8 +35,8 @@ pub use Rattle.call_model.specs.Server.{Owed, served_due}
 pub use Rattle.call_model.specs.Sound.{IsSound, StepsKeepSound}
 pub use Rattle.call_model.specs.Take.{MatchedTransaction, TakesAs}
 pub use Rattle.call_model.specs.declared.cause.Cause.{Cause}
-pub use Rattle.call_routing.specs.Opening.{Opens}
-pub use Rattle.call_routing.specs.SeenMatchedTransaction.{seen_recipient}
+pub use Rattle.fork_call.specs.Opening.{Opens}
+pub use Rattle.call_state.specs.SeenMatchedTransaction.{seen_recipient}
 pub use Rattle.sip_text.specs.Text.{MessageText}
 pub use Rattle.sip_txn.specs.Timers.{earlier, is_due}
 pub use Rattle.sip_uri.specs.Contact.{ContactText}

@@ -17,8 +17,8 @@ use Rattle.sip_build.specs.Generated.{generated_of, timestamp_lines}
 use Rattle.sip_text.specs.Text.{HeaderText}
 use Rattle.call_model.specs.Built.{further_lines, generated}
 use Rattle.call_model.specs.OpenedRequest.{OpenedRequest, destination_by}
-use Rattle.call_routing.specs.Destinations.{destination_of_row, destination_to}
-use Rattle.call_routing.specs.Opening.{candidates_for}
+use Rattle.fork_call.specs.Destinations.{destination_of_row, destination_to}
+use Rattle.fork_call.specs.Opening.{candidates_for}
 use Rattle.proxy_routing.proofs.laws.OwnRoutes.{kept}
 use Rattle.proxy_routing.specs.Admission.{target_uri}
 use Rattle.proxy_routing.specs.Targets.{CandidateTarget, targets_of}

@@ -4,7 +4,7 @@ use Rattle.proxy_config.specs.Setup.{Setup}
 use Rattle.call_model.specs.Call.{numbered}
 use Rattle.call_model.specs.Sound.{BegunIsSound}
 use Rattle.call_laws.specs.Right.{BegunStands}
-use Rattle.call_routing.specs.Opening.{candidates_for, opened_of}
+use Rattle.fork_call.specs.Opening.{candidates_for, opened_of}
 use Rattle.proxy_routing.specs.Targets.{targets_of}
 
 pub opened_timed : (begun : BegunIsSound) (stand : BegunStands) (setup : Setup) (number : ℕ) (m : MessageText) (source : Hop) (call : Call) (moments : List (Option ℕ))

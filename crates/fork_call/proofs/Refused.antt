@@ -11,7 +11,7 @@ use Rattle.proxy_routing.specs.declared.fault.RequestRejection.TheVariants.{BadR
 use Rattle.proxy_routing.specs.Admission.{IsPrepared, asks_extension, is_at_its_end, is_well_formed, target_uri}
 use Rattle.proxy_routing.specs.OwnRoutes.{without_own_routes}
 use Rattle.proxy_routing.specs.Targets.{CandidateTarget, has_hop}
-use Rattle.call_routing.specs.Opening.{Refuses, candidates_for}
+use Rattle.fork_call.specs.Opening.{Refuses, candidates_for}
 use Rattle.fork_call.specs.Refused.{OneFaultHolds}
 
 against : (b : Bool) → b ≡ true → b ≡ false → ⊥

@@ -13,7 +13,7 @@ use Rattle.call_model.specs.Take as to
 use Rattle.call_laws.specs.Answers.{AreGiven}
 use Rattle.call_laws.specs.EachDatagram.{turns_of}
 use Rattle.call_laws.specs.Stages.{Leads, Stage, end_of}
-use Rattle.call_routing.specs.Matching.{BelongsTo}
+use Rattle.call_state.specs.Matching.{BelongsTo}
 use Rattle.fork_call.specs.Takes.{Takes}
 use Rattle.fork_call.specs.Runs.{Answer, AnswerAt, Answers, AnswersAll, AreSaid, AreStages, AreTurns, AreTurnsOf, CallsHaveStages, IsSaid, LogEach, Logs, LosesUntold}
 use Rattle.fork_call.specs.Runs.{datagrams_of, failed_turn, handed_by, handed_by_all, one_given, one_lost, one_sent, pump_turn, sent_by, turn_of_lost, turns_of_step, turns_of_steps}

@@ -14,7 +14,7 @@ use Rattle.call_model.specs.Step.{Did}
 use Rattle.call_laws.specs.Successes.{GoesUp, PostsSuccess}
 use Rattle.call_laws.specs.Stages.{Leads, Stage, end_of}
 use Rattle.proxy_config.specs.Setup.{Setup}
-use Rattle.call_routing.specs.Opening.{Opens}
+use Rattle.fork_call.specs.Opening.{Opens}
 use Rattle.fork_call.specs.Naming.{GoesToTarget}
 
 -- in each run of a call that opened, what came to be owed is paid once, in order, or is still owed

@@ -15,7 +15,7 @@ use Rattle.call_model.specs.OpenedRequest.{OpenedRequest, Destination}
 use Rattle.proxy_config.specs.Setup.{Setup}
 use Rattle.proxy_routing.specs.Admission.{target_uri}
 use Rattle.proxy_routing.specs.Targets.{CandidateTarget}
-use Rattle.call_routing.specs.Opening.{Opens, candidates_for}
+use Rattle.fork_call.specs.Opening.{Opens, candidates_for}
 
 -- each answer of the proxy's own is that to the request as it was marked with its source, though the call keeps it without the
 -- Route values that the proxy takes away

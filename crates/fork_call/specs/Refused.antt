@@ -7,7 +7,7 @@ use Rattle.proxy_config.specs.Setup.{Setup}
 use Rattle.proxy_routing.specs.declared.fault.RequestRejection.{RequestRejection}
 use Rattle.proxy_routing.specs.declared.fault.RequestRejection.TheVariants.{NoMemory}
 use Rattle.call_model.specs.Call.{Call}
-use Rattle.call_routing.specs.Opening.{Opens, Refuses}
+use Rattle.fork_call.specs.Opening.{Opens, Refuses}
 
 pub record HoldsAlone (setup : Setup) (m : MessageText) (source : Hop) (fault : RequestRejection) : Type 0 where
   pub unopened : (number : ℕ) (call : Call) → Opens setup number m source call → ⊥

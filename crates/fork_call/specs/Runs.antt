@@ -23,7 +23,7 @@ use Rattle.call_model.specs.Take.{MatchedTransaction}
 use Rattle.call_laws.specs.Answers.{AreGiven}
 use Rattle.call_laws.specs.EachDatagram.{turns_of}
 use Rattle.call_laws.specs.Stages.{Leads, Stage, end_of}
-use Rattle.call_routing.specs.Matching.{BelongsTo}
+use Rattle.call_state.specs.Matching.{BelongsTo}
 use Rattle.fork_call.specs.Carry.{CarriesAll, Carrying, Sent, Lost, Silent}
 use Rattle.fork_call.specs.Takes.{Takes}
 

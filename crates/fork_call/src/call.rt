@@ -8,10 +8,10 @@ ghost use Rattle.call_model.specs.Pump.{Pumps};
 ghost use Rattle.call_model.specs.SeenStep.{pumped};
 ghost use Rattle.call_model.specs.SeenTaken.{seen_taken};
 ghost use Rattle.call_model.specs.Take as take;
-ghost use Rattle.call_routing.specs.Kinds.{is_response};
-ghost use Rattle.call_routing.specs.Matching.{BelongsTo, BelongsToNone, IsReadBranch};
-ghost use Rattle.call_routing.specs.Opening.{IsOpenable, Opens, Refuses};
-ghost use Rattle.call_routing.specs.SeenMatchedTransaction.{seen_recipient};
+ghost use Rattle.call_state.specs.Kinds.{is_response};
+ghost use Rattle.call_state.specs.Matching.{BelongsTo, BelongsToNone, IsReadBranch};
+ghost use Rattle.fork_call.specs.Opening.{IsOpenable, Opens, Refuses};
+ghost use Rattle.call_state.specs.SeenMatchedTransaction.{seen_recipient};
 ghost use Rattle.fork_call.specs.inner.SeenAction.{seen_action};
 ghost use Rattle.fork_call.specs.Takes.{Takes};
 ghost use Rattle.fork_call.specs.Waits.{waits_until};
@@ -21,6 +21,7 @@ ghost use Rattle.fork_call.specs.inner.Timing.{row_of_cause};
 
 use crate::action::Action;
 use crate::fault::TakeFault;
+use crate::opening_request::OpeningRequest;
 use crate::pending_call::PendingCall;
 use crate::schedule::{BranchTimers, earlier, is_due};
 use crate::taking::{give, room_for, row_of_transaction as row_to};
@@ -28,14 +29,10 @@ use crate::timing::time_step;
 use call_branch::response_status;
 use call_laws::{calls_send_right, what_is_sent_is_right};
 use call_model::{Cause, Step, Taken, calls_stay_sound};
-use call_routing::{MatchedTransaction, OpeningRequest, match_response, match_transaction};
-use call_state::CallState;
+use call_state::{CallState, MatchedTransaction, match_response, match_transaction};
 use call_table::{Numbered, Pending};
 use fork_book::Book;
-use fork_model::{
-    events_make_progress, new_rows_are_contacts, others_stay_open, positions_are_bounded,
-    replies_list_all_that_became,
-};
+use fork_model::{events_make_progress, new_rows_are_contacts, others_stay_open, positions_are_bounded, replies_list_all_that_became};
 use proxy_config::Setup;
 use proxy_routing::RequestRejection;
 use sip_text::Message;

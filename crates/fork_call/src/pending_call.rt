@@ -1,15 +1,15 @@
 //! Calls that have no number yet.
 ghost use Rattle.std.specs.Prelude.{◌≡◌, ℕ, IfErr, IfOk};
 ghost use Rattle.call_model.specs.Call.{numbered};
-ghost use Rattle.call_routing.specs.Opening.{IsOpenable, IsRefusedFor, Opens};
+ghost use Rattle.fork_call.specs.Opening.{IsOpenable, IsRefusedFor, Opens};
 ghost use Rattle.proxy_routing.specs.Unrouted.{IfRejected};
 
 use crate::call::Call;
+use crate::opening_request::OpeningRequest;
 use crate::schedule::BranchTimers;
 use crate::timing::schedule_of;
 use call_laws::calls_send_right;
 use call_model::calls_stay_sound;
-use call_routing::OpeningRequest;
 use call_state::CallState;
 use call_table::Pending;
 use proxy_config::Setup;
@@ -55,7 +55,7 @@ impl<A: Allocator + Clone> PendingCall<A> {
         calls_send_right();
         let own = opening.alloc.clone()?;
         let rest = opening.alloc.clone()?;
-        let state = match call_routing::open(setup, opening) {
+        let state = match crate::opening::open(setup, opening) {
             Ok(state) => state,
             Err(unrouted) => return Err(unrouted),
         };

@@ -4,8 +4,8 @@ use Rattle.fork_model.specs.Event.{Event}
 use Rattle.fork_model.specs.Choice.{Choice, IsChoice}
 use Rattle.fork_model.specs.History.{Target, opening, after}
 use Rattle.fork_model.specs.Log.{Log, events_of}
-use Rattle.interleaving.specs.Interleaving.{IsInterleaving}
-use Rattle.interleaving.specs.Plain.{PlainScriptsEnd, LeastIsChosen, ChoosesLeast, EndsWithLeast, all_of}
+use Rattle.fork_engine.specs.Interleaving.{IsInterleaving}
+use Rattle.fork_engine.specs.Plain.{PlainScriptsEnd, LeastIsChosen, ChoosesLeast, EndsWithLeast, all_of}
 
 pub ends_with_least : PlainScriptsEnd → LeastIsChosen → (kind : Kind) (rules : Rules) (targets : List Target) (scripts : List (List Event)) (log : Log)
     → log.opening ≡ opening kind rules targets → IsInterleaving scripts log.history → EndsWithLeast rules targets scripts log

@@ -6,7 +6,7 @@ use Rattle.fork_model.specs.Core.{most_strays}
 use Rattle.fork_model.specs.History.{Target, opening}
 use Rattle.fork_context.specs.declared.context.NewFault.{NewFault}
 use Rattle.fork_model.specs.Log.{Log}
-use Rattle.interleaving.specs.Interleaving.{IsInterleaving}
+use Rattle.fork_engine.specs.Interleaving.{IsInterleaving}
 use Rattle.fork_engine.specs.declared.fault.DriveFault.{DriveFault}
 use Rattle.fork_engine.specs.declared.fault.DriveFault.TheVariants.{New, Full, NoMemory, Torn}
 

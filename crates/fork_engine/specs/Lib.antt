@@ -1,1 +1,12 @@
+pub mod Asked
 pub mod Faults
+pub mod Headline
+pub mod Interleaving
+pub mod Malformed
+pub mod Plain
+pub mod Run
+pub mod Spelling
+pub mod TextFaults
+pub mod TornBooks
+pub mod Workers
+pub mod inner

@@ -7,12 +7,12 @@ ghost use Rattle.fork_context.specs.Refusals.{IsTooMany, HasTwice};
 ghost use Rattle.fork_engine.specs.Faults.{IsNew, IsNoTorn};
 
 use crate::fault::DriveFault;
+use crate::same::are_same_targets;
 use crate::workers::Ended;
 use context_values::copied_targets;
 use fork_book::Book;
 use fork_context::{Context, Event, Kind, NewFault, PostError, Target};
 use fork_rank::Rules;
-use interleaving::are_same_targets;
 use std::alloc::{AllocError, Allocator};
 
 /// What stands under the lock: a book, with what it opened with.

@@ -3,7 +3,7 @@ use Rattle.fork_listing.proofs.Common.{◌≡◌, ℕ, suc, ◌<◌, ◌≤◌, 
 use Rattle.fork_listing.proofs.Common.{ended_at, IsInPlace, rows_of, score_in, score_at, Listing, rule_lines, read_listing, IsRight, IsVerdictOf, IsChecked, verdict_of, IsLine, IsEnd, IsListing, IsRightText, all_at, looked, option_map, slice_get-map}
 use Rattle.fork_listing.proofs.Common.{slice_get_within, common_steps}
 use Rattle.std.specs.Prelude.{IfOk, IfErr}
-use Rattle.fork_text.proofs.laws.Lines as texts
+use Rattle.fork_rank.proofs.laws.Lines as texts
 use Rattle.fork_model.proofs.laws.OneReplyLemmas.{one_choice}
 use Rattle.fork_listing.specs.declared.refusal.CheckFault.{CheckFault}
 use Rattle.fork_listing.specs.declared.refusal.CheckFault.TheVariants as fault

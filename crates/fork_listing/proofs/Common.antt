@@ -27,9 +27,9 @@ pub use Rattle.fork_model.specs.History.{first_row, opening_rows}
 pub use Rattle.fork_model.specs.OneReply.{AreArrivals}
 pub use Rattle.fork_model.specs.Rank.{Before, Score}
 pub use Rattle.fork_model.specs.Table.{Accepted, Ended, Idle, Kind, Offer, Row, Rules, Rung, State, Table, Trying, most_targets, is_succeeded}
-pub use Rattle.fork_text.proofs.laws.Field.{before_found, before_read, found_map, found_one, found_then}
-pub use Rattle.fork_text.specs.Field.{before, most_number, most_q}
-pub use Rattle.fork_text.specs.RuleLines.{ended}
+pub use Rattle.fork_rank.proofs.laws.Field.{before_found, before_read, found_map, found_one, found_then}
+pub use Rattle.fork_rank.specs.Field.{before, most_number, most_q}
+pub use Rattle.fork_rank.specs.RuleLines.{ended}
 pub use Rattle.fork_tree.specs.Tree.{IsBest}
 pub use Rattle.fork_tree.specs.declared.row.RowRef.{RowRef}
 pub use Rattle.fork_tree.specs.declared.summary.BestRef.{BestRef}

@@ -12,7 +12,7 @@ use Rattle.fork_model.proofs.laws.ContactLemmas.{taken_bounded}
 use Rattle.fork_model.proofs.laws.OrderLemmas.{Before-total}
 use Rattle.fork_tree.specs.declared.row.End.TheVariants as line_end
 use Rattle.fork_listing.specs.Ranks.{rank_before}
-use Rattle.fork_text.proofs.laws.Lines as texts
+use Rattle.fork_rank.proofs.laws.Lines as texts
 use Rattle.fork_context.specs.Led.{AreRules, IsLedTo}
 use Rattle.fork_listing.specs.Accepted.{ListingsAreRight, AppendsRight}
 use Rattle.fork_listing.proofs.Finals.{status_seen}

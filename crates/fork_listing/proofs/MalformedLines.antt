@@ -4,7 +4,7 @@ use Rattle.std.proofs.lemmas.List.Splits.{length-slice_split}
 use Rattle.sip_lex.proofs.laws.Splits.{pieces_lack}
 use Rattle.fork_listing.specs.Text.{phase_after, read_listing}
 use Rattle.fork_listing.specs.Spelled.{RefusedByFirst}
-use Rattle.fork_text.proofs.laws.Lines.{malformed}
+use Rattle.fork_rank.proofs.laws.Lines.{malformed}
 use Rattle.fork_listing.proofs.SpelledListings.{reader}
 
 nothing_due : (number : ℕ) (o : Option Listing) → or_line number o ≡ Err number → o ≡ None

@@ -6,10 +6,10 @@ use Rattle.fork_listing.proofs.Common.{found_then, before_read, before_found}
 use Rattle.std.specs.List.{list_all}
 use Rattle.fork_tree.specs.declared.row.End.TheVariants as tree
 use Rattle.sip_lex.proofs.laws.Cuts.{Lacks-append, Lacks-pass}
-use Rattle.fork_text.proofs.laws.Preferred.{preferred_read, preferred_found, list_lacks}
+use Rattle.fork_rank.proofs.laws.Preferred.{preferred_read, preferred_found, list_lacks}
 use Rattle.fork_listing.specs.declared.line.ListingWord.{ListingWord}
 use Rattle.fork_listing.specs.declared.line.ListingWord.TheVariants as word
-use Rattle.fork_text.specs.Preferred.{read_preferred}
+use Rattle.fork_rank.specs.PreferredText.{read_preferred}
 use Rattle.fork_listing.specs.Reading.{word_of, target_with, read_target, ranked_with, read_ranked, final_with, read_final, read_fork, read_rest}
 use Rattle.fork_listing.specs.inner.Spelled.{IsSpelledBy}
 use Rattle.fork_listing.proofs.SpelledParts.{status_read, status_found, count_read, count_found, most_listed_small, parent_read, parent_found, parent_lacks, version_found, end_read, end_found}

@@ -5,9 +5,9 @@ use Rattle.fork_listing.proofs.Common.{drafted_line, listing_in, or_line, read_f
 use Rattle.std.proofs.lemmas.Bool.{cond-false, ne_eqb}
 use Rattle.fork_listing.specs.declared.draft.ListingPhase.TheVariants.{AtFork, AtPrefer, AtDepth, AtTargets, AtRanks, AtEnd}
 use Rattle.fork_listing.specs.Text.{lines_of, targets_due, read_listing}
-use Rattle.fork_text.specs.RuleLines.{usual_rules}
-use Rattle.fork_text.proofs.laws.Lines.{IsReader, read_lines}
-use Rattle.fork_text.proofs.laws.Lines as texts
+use Rattle.fork_rank.specs.RuleLines.{usual_rules}
+use Rattle.fork_rank.proofs.laws.Lines.{IsReader, read_lines}
+use Rattle.fork_rank.proofs.laws.Lines as texts
 use Rattle.fork_listing.specs.Spelled.{IsUsualElse, IsTextOf, ReadExactly, drafted_lines}
 use Rattle.fork_listing.proofs.SpelledLines.{line_read, line_found, line_lacks}
 

@@ -7,7 +7,7 @@ use Rattle.fork_tree.specs.declared.row.End.TheVariants as tree
 use Rattle.std.specs.Char.{is_ascii_digit}
 use Rattle.sip_lex.specs.Cut.{cut, behind}
 use Rattle.sip_lex.proofs.laws.Cuts.{cut_joins}
-use Rattle.fork_text.proofs.laws.Field.{number_from_read, number_from_found}
+use Rattle.fork_rank.proofs.laws.Field.{number_from_read, number_from_found}
 use Rattle.std.proofs.lemmas.Option.{cond_some}
 use Rattle.fork_listing.specs.Reading.{stored_as, read_stored, read_end_cut}
 

@@ -4,7 +4,7 @@
 use Rattle.std.specs.Prelude.{ℕ, Bool, true, false, List, ◌∷◌, ◌++◌, Option, Some, None, codes}
 use Rattle.std.specs.Fmt.{decimal}
 use Rattle.fork_model.specs.Table.{most_targets}
-use Rattle.fork_text.specs.RuleLines.{prefer_text, depth_text}
+use Rattle.fork_rank.specs.RuleLines.{prefer_text, depth_text}
 use Rattle.fork_listing.specs.declared.line.Version.{Version}
 use Rattle.fork_listing.specs.declared.line.Version.TheVariants.{First, Second, Third}
 use Rattle.fork_tree.specs.declared.row.End.{End}

@@ -4,8 +4,8 @@ use Rattle.std.specs.Option.{option_map}
 use Rattle.sip_lex.specs.Cut.{cut, is}
 use Rattle.sip_lex.specs.Number.{plain_number_within}
 use Rattle.fork_model.specs.Table.{most_targets}
-use Rattle.fork_text.specs.Field.{most_q, most_number, before, number_from}
-use Rattle.fork_text.specs.Preferred.{read_preferred}
+use Rattle.fork_rank.specs.Field.{most_q, most_number, before, number_from}
+use Rattle.fork_rank.specs.PreferredText.{read_preferred}
 use Rattle.fork_listing.specs.declared.line.ListingWord.{ListingWord}
 use Rattle.fork_listing.specs.declared.line.ListingWord.TheVariants as word
 use Rattle.fork_listing.specs.declared.line.Version.{Version}

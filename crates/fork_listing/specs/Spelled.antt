@@ -11,10 +11,10 @@ use Rattle.fork_listing.specs.declared.line.ListedTarget.{ListedTarget}
 use Rattle.fork_listing.specs.declared.line.Ranked.{Ranked}
 use Rattle.fork_listing.specs.declared.line.Final.{Final}
 use Rattle.fork_listing.specs.Line.{Line, ForkLine, PreferLine, DepthLine, TargetLine, RankLine, FinalLine, line_text, most_arrival, most_listed}
-use Rattle.fork_text.specs.Field.{most_q, most_number}
+use Rattle.fork_rank.specs.Field.{most_q, most_number}
 use Rattle.fork_listing.specs.Text.{Listing, Draft, no_draft, phase_after, listing_in, drafted_line, lines_of, lines_text, listing_text, read_listing}
-use Rattle.fork_text.specs.LineByLine as texts
-use Rattle.fork_text.specs.RuleLines.{ended, usual_rules}
+use Rattle.fork_rank.specs.LineByLine as texts
+use Rattle.fork_rank.specs.RuleLines.{ended, usual_rules}
 
 -- a status that may be stored or go up: a 2xx is neither
 abbrev pub IsStatus : ℕ → Type 0

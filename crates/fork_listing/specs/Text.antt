@@ -4,10 +4,10 @@ use Rattle.std.specs.Option.{option_map}
 use Rattle.std.specs.List.{slice_split}
 use Rattle.sip_lex.specs.Cut.{is}
 use Rattle.fork_model.specs.Table.{Rules}
-use Rattle.fork_text.specs.LineByLine as texts
-use Rattle.fork_text.specs.LineByLine.{lines_from}
-use Rattle.fork_text.specs.Pieces.{is_empty}
-use Rattle.fork_text.specs.RuleLines.{usual_rules}
+use Rattle.fork_rank.specs.LineByLine as texts
+use Rattle.fork_rank.specs.LineByLine.{lines_from}
+use Rattle.fork_rank.specs.Pieces.{is_empty}
+use Rattle.fork_rank.specs.RuleLines.{usual_rules}
 use Rattle.fork_listing.specs.declared.line.Version.{Version}
 use Rattle.fork_listing.specs.declared.line.Version.TheVariants.{First, Second, Third}
 use Rattle.fork_listing.specs.declared.line.ListedTarget.{ListedTarget}

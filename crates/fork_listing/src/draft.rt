@@ -5,8 +5,7 @@ ghost use Rattle.fork_listing.specs.Text.{targets_due, phase_after, with_line, n
 ghost use Rattle.fork_listing.specs.inner.ReadView.{GivesListing};
 
 use crate::line::{Final, ListedTarget, ListingLine, Ranked, Version, read_listing_line};
-use fork_rank::Rules;
-use fork_text::{with_depth, with_preferred};
+use fork_rank::{Rules, with_depth, with_preferred};
 use sip_lex::cut_at;
 use std::alloc::{AllocError, Allocator};
 use std::marker::Model;

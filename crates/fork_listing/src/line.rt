@@ -2,13 +2,12 @@
 ghost use Rattle.std.specs.Prelude.{◌≡◌};
 ghost use Rattle.std.specs.Option.{option_map};
 ghost use Rattle.sip_lex.specs.Number.{plain_number_within};
-ghost use Rattle.fork_text.specs.Field.{before, seen_before};
+ghost use Rattle.fork_rank.specs.Field.{before, seen_before};
 ghost use Rattle.fork_listing.specs.Line.{most_arrival};
 ghost use Rattle.fork_listing.specs.Reading.{word_of, read_version, read_status, read_parent, may_be_assumed, stored_as, read_stored, read_end, read_count, read_target, read_ranked, read_final, read_rest, read_line};
 ghost use Rattle.fork_listing.specs.inner.LineView.{line_of};
 
-use fork_rank::{MOST_TARGETS, Preferred, Status};
-use fork_text::{Depth, read_depth, read_preferred, read_small_number, read_small_number_before};
+use fork_rank::{Depth, MOST_TARGETS, Preferred, Status, read_depth, read_preferred, read_small_number, read_small_number_before};
 use fork_tree::End;
 use sip_lex::{cut_at, read_plain_number};
 

@@ -3,11 +3,10 @@ ghost use Rattle.std.specs.Prelude.{◌≡◌, ◌∷◌, ◌++◌, [], OnOk};
 ghost use Rattle.std.specs.Fmt.{decimal};
 ghost use Rattle.fork_listing.specs.Line.{number_text, how_text, end_text, line_text, TargetLine, RankLine};
 ghost use Rattle.fork_listing.specs.inner.Text.{head_text, targets_text, ranks_text};
-ghost use Rattle.fork_text.specs.RuleLines.{ended};
+ghost use Rattle.fork_rank.specs.RuleLines.{ended};
 
 use crate::line::{ListedTarget, Ranked};
-use fork_rank::Rules;
-use fork_text::{append, append_depth, append_preferred};
+use fork_rank::{Rules, append, append_depth, append_preferred};
 use fork_tree::End;
 use sip_lex::append_decimal;
 use std::alloc::{AllocError, Allocator};

@@ -26,11 +26,11 @@ pub use Rattle.fork_model.specs.OneReply.{AreArrivals}
 pub use Rattle.fork_model.specs.StrictOrder.{Irreflexive}
 pub use Rattle.fork_model.specs.Table.{Challenge, Invite, Kind, Offer, Other, Table, is_ended, is_finished, is_row, is_succeeded, is_trying, most_targets}
 pub use Rattle.fork_rank.specs.Preferred.{usual_preferred}
-pub use Rattle.fork_text.proofs.laws.Field.{found_then}
-pub use Rattle.fork_text.proofs.laws.Lines.{all_back}
-pub use Rattle.fork_text.proofs.laws.Preferred.{preferred_found}
-pub use Rattle.fork_text.specs.Field.{most_number, most_q, numbered_text}
-pub use Rattle.fork_text.specs.RuleLines.{ended}
+pub use Rattle.fork_rank.proofs.laws.Field.{found_then}
+pub use Rattle.fork_rank.proofs.laws.Lines.{all_back}
+pub use Rattle.fork_rank.proofs.laws.Preferred.{preferred_found}
+pub use Rattle.fork_rank.specs.Field.{most_number, most_q, numbered_text}
+pub use Rattle.fork_rank.specs.RuleLines.{ended}
 pub use Rattle.sip_lex.specs.Cut.{cut, is}
 pub use Rattle.fork_program.specs.Answer.{IsAnswer}
 pub use Rattle.fork_program.specs.Faults.{IsForkReplay, most_text}

@@ -10,7 +10,7 @@ use Rattle.std.proofs.lemmas.List.Elements.{All-head, All-tail}
 use Rattle.std.proofs.lemmas.Map.Steps.{length-le_from_distinct_below}
 use Rattle.std.proofs.lemmas.Option.{slice_get_within}
 use Rattle.fork_model.specs.Rank.{Score, Before}
-use Rattle.fork_text.specs.Preferred.{list_text}
+use Rattle.fork_rank.specs.PreferredText.{list_text}
 use Rattle.fork_listing.specs.declared.line.Version.{Version}
 use Rattle.fork_tree.specs.declared.row.End.{End}
 use Rattle.fork_listing.specs.declared.line.ListedTarget.{ListedTarget}

@@ -6,8 +6,8 @@ use Rattle.std.specs.Prelude.{IfErr}
 use Rattle.std.specs.List.{join_with_byte}
 use Rattle.std.proofs.lemmas.List.Splits.{join_with_byte-slice_split, length-slice_split}
 use Rattle.sip_lex.proofs.laws.Splits.{pieces_lack}
-use Rattle.fork_text.specs.LineByLine.{with_next}
-use Rattle.fork_text.proofs.laws.Lines.{IsReader, read_lines, malformed, found, next_piece}
+use Rattle.fork_rank.specs.LineByLine.{with_next}
+use Rattle.fork_rank.proofs.laws.Lines.{IsReader, read_lines, malformed, found, next_piece}
 use Rattle.fork_program.specs.declared.script.ScriptFault.{ScriptFault}
 use Rattle.fork_program.specs.Script.{read_script}
 use Rattle.fork_program.specs.Malformed.{IsMalformedAt}

@@ -9,7 +9,7 @@ use Rattle.fork_listing.specs.Checking.{IsChecked}
 use Rattle.fork_program.specs.declared.fault.ProgFault.{ProgFault}
 use Rattle.fork_program.specs.declared.fault.ProgFault.TheVariants as prog
 use Rattle.fork_program.specs.Faults.{most_text}
-use Rattle.fork_text.specs.RuleLines.{ended}
+use Rattle.fork_rank.specs.RuleLines.{ended}
 
 -- lines count from 1, targets from 0; want of memory is no answer
 abbrev pub IsAnswer : Result Verdict CheckFault → ℕ → List ℕ → Type 0

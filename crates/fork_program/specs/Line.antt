@@ -4,9 +4,9 @@ use Rattle.std.specs.Prelude.{◌≡◌, ◌≤◌, ◌<◌, ℕ, ◌&&◌, nat_
 use Rattle.std.specs.List.{list_all}
 use Rattle.std.specs.Fmt.{decimal}
 use Rattle.fork_rank.specs.Preferred.{IsPreferredList}
-pub use Rattle.fork_text.specs.Field.{is_visible}
-use Rattle.fork_text.specs.Field.{most_q, most_number, numbered_text}
-use Rattle.fork_text.specs.RuleLines.{prefer_text, depth_text}
+pub use Rattle.fork_rank.specs.Field.{is_visible}
+use Rattle.fork_rank.specs.Field.{most_q, most_number, numbered_text}
+use Rattle.fork_rank.specs.RuleLines.{prefer_text, depth_text}
 use Rattle.fork_model.specs.Table.{Kind, Invite, Other, most_targets}
 use Rattle.fork_model.specs.Event.{Event, Ring, Answer, Timeout, Fault, TimerC, GiveUp, Cancel, FinalAnswer}
 

@@ -1,6 +1,6 @@
 -- Which line of a text that spells no script is the first that is malformed or missing.
 use Rattle.std.specs.Prelude.{◌≡◌, ℕ, suc, List, [], ◌∷◌, ◌++◌, length}
-use Rattle.fork_text.specs.RuleLines.{ended}
+use Rattle.fork_rank.specs.RuleLines.{ended}
 use Rattle.fork_program.specs.Line.{Line, line_text}
 use Rattle.fork_program.specs.Script.{Script}
 use Rattle.fork_program.specs.Spelling.{Spelling, IsSpelling, lines_of, text_of, Spells}

@@ -5,8 +5,8 @@ use Rattle.sip_lex.specs.Cut.{cut, is}
 use Rattle.sip_lex.specs.Number.{plain_number_within}
 use Rattle.fork_model.specs.Table.{Kind, Invite, Other, most_targets}
 use Rattle.fork_model.specs.Event.{Ring, Answer, Timeout, Fault, TimerC, GiveUp, Cancel}
-use Rattle.fork_text.specs.Field.{most_q, most_number, number_before, number_from}
-use Rattle.fork_text.specs.Preferred.{read_preferred}
+use Rattle.fork_rank.specs.Field.{most_q, most_number, number_before, number_from}
+use Rattle.fork_rank.specs.PreferredText.{read_preferred}
 use Rattle.fork_program.specs.declared.line.ScriptWord.{ScriptWord}
 use Rattle.fork_program.specs.declared.line.ScriptWord.TheVariants as word
 use Rattle.fork_program.specs.Line.{Line, KindLine, PreferLine, DepthLine, TargetLine, EventLine, ContactLine, OtherLine, ChallengeLine, is_name, is_text, bare}

@@ -16,9 +16,9 @@ use Rattle.fork_listing.specs.Text.{listing_text}
 use Rattle.fork_listing.specs.Ranking.{IsRanking}
 use Rattle.fork_listing.specs.Listed.{targets_of, listing_of}
 use Rattle.fork_listing.specs.Accepted.{IsRightText}
-use Rattle.fork_text.specs.Preferred.{list_text}
-use Rattle.fork_text.specs.RuleLines.{ended}
-use Rattle.fork_text.specs.Field.{numbered_text}
+use Rattle.fork_rank.specs.PreferredText.{list_text}
+use Rattle.fork_rank.specs.RuleLines.{ended}
+use Rattle.fork_rank.specs.Field.{numbered_text}
 use Rattle.fork_program.specs.Script.{Script}
 
 -- the rows that are tried, by number

@@ -5,7 +5,7 @@ use Rattle.fork_model.specs.Table.{Table}
 use Rattle.fork_listing.specs.declared.refusal.Verdict.{Verdict}
 use Rattle.fork_listing.specs.Listed.{IsListingOf}
 use Rattle.fork_listing.specs.Accepted.{IsRightText}
-use Rattle.fork_text.specs.RuleLines.{ended}
+use Rattle.fork_rank.specs.RuleLines.{ended}
 use Rattle.fork_program.specs.Script.{Script}
 use Rattle.fork_program.specs.Spelling.{Spells}
 use Rattle.fork_program.specs.Replay.{closed}

@@ -6,9 +6,9 @@ use Rattle.sip_lex.specs.Cut.{is}
 use Rattle.fork_model.specs.Table.{Kind, Invite, Rules, Offer, Challenge}
 use Rattle.fork_model.specs.Event.{FinalAnswer, Event, Answer}
 use Rattle.fork_model.specs.History.{Target}
-use Rattle.fork_text.specs.LineByLine.{lines_from}
-use Rattle.fork_text.specs.Pieces.{is_empty}
-use Rattle.fork_text.specs.RuleLines.{usual_rules}
+use Rattle.fork_rank.specs.LineByLine.{lines_from}
+use Rattle.fork_rank.specs.Pieces.{is_empty}
+use Rattle.fork_rank.specs.RuleLines.{usual_rules}
 use Rattle.fork_program.specs.declared.script.ScriptPhase.{ScriptPhase}
 use Rattle.fork_program.specs.declared.script.ScriptPhase.TheVariants.{AtKind, AtPrefer, AtDepth, AtTargets, AtEvents, AtAnswer}
 use Rattle.fork_program.specs.Line.{Line, KindLine, PreferLine, DepthLine, TargetLine, EventLine, ContactLine, OtherLine, ChallengeLine}

@@ -16,7 +16,7 @@ use Rattle.fork_model.specs.Table.{Kind, Offer, Challenge, most_targets}
 use Rattle.fork_model.specs.Event.{Event, Answer}
 use Rattle.fork_model.specs.History.{Target}
 use Rattle.fork_rank.specs.Preferred.{usual_preferred}
-use Rattle.fork_text.specs.LineByLine.{lines_text}
+use Rattle.fork_rank.specs.LineByLine.{lines_text}
 use Rattle.fork_program.specs.Line.{Line, KindLine, PreferLine, DepthLine, TargetLine, EventLine, ContactLine, OtherLine, ChallengeLine, line_text, IsLine}
 use Rattle.fork_program.specs.Script.{Script}
 

@@ -1,7 +1,7 @@
 //! Checking a listing: the line that answers whether it is right.
 ghost use Rattle.std.specs.Prelude.{◌≡◌, ◌<◌, ◌↔◌, ◌++◌, length, take, Err, IfOk, OnOk, OnErr, IfErr, IsErrOf};
 ghost use Rattle.std.specs.Fmt.{decimal};
-ghost use Rattle.fork_text.specs.RuleLines.{ended};
+ghost use Rattle.fork_rank.specs.RuleLines.{ended};
 ghost use Rattle.fork_program.specs.Faults.{most_text};
 ghost use Rattle.fork_program.specs.Answer.{AppendsLine, AppendsAnswer, IsCheckRefusal};
 

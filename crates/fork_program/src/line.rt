@@ -3,7 +3,7 @@ ghost use Rattle.std.specs.Prelude.{◌≡◌, IfSome, Some};
 ghost use Rattle.std.specs.Option.{option_map, option_copied};
 ghost use Rattle.std.specs.List.{list_all};
 ghost use Rattle.fork_rank.specs.KindView.{kind_of};
-ghost use Rattle.fork_text.specs.Field.{number_from, seen_before};
+ghost use Rattle.fork_rank.specs.Field.{number_from, seen_before};
 ghost use Rattle.fork_program.specs.Line as spec;
 ghost use Rattle.fork_program.specs.Line.{is_visible, is_printable, is_name, is_text};
 ghost use Rattle.fork_program.specs.inner.Line.{IsSpelledBy};
@@ -11,8 +11,7 @@ ghost use Rattle.fork_program.specs.Reading.{word_of, read_kind, read_named, rea
 ghost use Rattle.fork_program.specs.inner.LineView.{line_of};
 
 use fork_context::Kind;
-use fork_rank::{Preferred, RingStatus, Status};
-use fork_text::{Depth, read_depth, read_preferred, read_small_number, read_small_number_before};
+use fork_rank::{Depth, Preferred, RingStatus, Status, read_depth, read_preferred, read_small_number, read_small_number_before};
 use sip_lex::cut_at;
 
 /// A q is in thousandths, and at most one.

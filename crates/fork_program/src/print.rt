@@ -7,12 +7,11 @@ ghost use Rattle.fork_model.specs.Challenges.{challenge_list};
 ghost use Rattle.fork_model.specs.Chosen.{IsChosen};
 ghost use Rattle.context_values.specs.ReplyView.{choice_of, up_of};
 ghost use Rattle.fork_program.specs.Replay.{tried, opening_text, final_text, up_text, reply_text, branches_left, field_name, added_text, added_lines, EndsWith};
-ghost use Rattle.fork_text.specs.RuleLines.{ended};
+ghost use Rattle.fork_rank.specs.RuleLines.{ended};
 
 use fork_context::{Choice, Context, Reply, State, Up};
 use fork_listing::{ListFault, listing, status_at};
-use fork_rank::Challenge;
-use fork_text::{append, append_list};
+use fork_rank::{Challenge, append, append_list};
 use sip_lex::append_decimal;
 use std::alloc::{AllocError, Allocator};
 

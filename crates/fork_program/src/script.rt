@@ -3,7 +3,7 @@ ghost use Rattle.std.specs.Prelude.{◌≡◌, ◌≤◌, ◌<◌, ◌^◌, ◌+
 ghost use Rattle.fork_rank.specs.KindView.{kind_of};
 ghost use Rattle.context_values.specs.EventView.{event_of};
 ghost use Rattle.fork_program.specs.Script.{phase_after, with_contact, with_challenge, answer_changed, last_changed, with_line, no_script, no_draft, drafted, has_kind, finished_draft, read_script};
-ghost use Rattle.fork_text.specs.Field.{most_q};
+ghost use Rattle.fork_rank.specs.Field.{most_q};
 ghost use Rattle.fork_program.specs.Line.{bare, IsLine};
 ghost use Rattle.fork_program.specs.inner.LineView.{line_of};
 ghost use Rattle.fork_program.specs.ReadView.{GivesScript, IsFaultOf};
@@ -12,8 +12,7 @@ ghost use Rattle.fork_program.specs.Spelling.{Spells};
 
 use crate::line::{ScriptLine, read_script_line};
 use fork_context::{Answer, Event, Kind, Offer, Target};
-use fork_rank::{Challenge, Rules, Status};
-use fork_text::{with_depth, with_preferred};
+use fork_rank::{Challenge, Rules, Status, with_depth, with_preferred};
 use sip_lex::cut_at;
 use std::alloc::{AllocError, Allocator};
 use std::collections::VecDeque;

@@ -2,12 +2,12 @@
 use Rattle.std.specs.Prelude.{◌≡◌, ℕ, List, Option, Result, Ok, Err}
 use Rattle.fork_program.specs.Program.{IsReadFault}
 use Rattle.fork_program.specs.FaultView as answer
-use Rattle.fork_drive.specs.Asked.{IsWhole}
-use Rattle.proxy_server.specs.Faults.{Spells, IsFaultOf}
-use Rattle.proxy_server.specs.Faults as serve
-use Rattle.proxy_server.specs.declared.fault.ServeFault.{ServeFault}
-use Rattle.proxy_server.specs.declared.fault.ServeFault.TheVariants as served
-use Rattle.config_form.specs.Form.{form_at}
+use Rattle.fork_engine.specs.Asked.{IsWhole}
+use Rattle.serve_command.specs.Faults.{Spells, IsFaultOf}
+use Rattle.serve_command.specs.Faults as serve
+use Rattle.serve_command.specs.declared.fault.ServeFault.{ServeFault}
+use Rattle.serve_command.specs.declared.fault.ServeFault.TheVariants as served
+use Rattle.proxy_config.specs.Form.{form_at}
 use Rattle.fork_proxy.specs.declared.Failure.{Failure}
 use Rattle.fork_proxy.specs.declared.Failure.TheVariants as failure
 

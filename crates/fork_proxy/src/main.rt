@@ -5,21 +5,21 @@
 ghost use Rattle.std.specs.Prelude.{◌≡◌, ◌↔◌, None, IfOk, IfErr, IfSome, IsErrOf, map, string_bytes};
 ghost use Rattle.std.specs.Process as process;
 ghost use Rattle.fork_program.specs.Program.{IsUsageFault};
-ghost use Rattle.fork_drive.specs.Asked.{asked_for, Writes, IsAnswerFault};
+ghost use Rattle.fork_engine.specs.Asked.{asked_for, Writes, IsAnswerFault};
 ghost use Rattle.fork_proxy.specs.Ending.{Serves, IsServeFailure, exit_status, status_of, told};
 
-use config_form::Malformed;
-use fork_drive::ProgramCommand;
+use fork_engine::ProgramCommand;
 use fork_program::{Fault, ProgFault, read_input};
 use log::Log;
-use proxy_server::{ServeFault, parse_serve_args, serve};
+use proxy_config::Malformed;
+use serve_command::{ServeFault, parse_serve_args, serve};
+use std::{env, io};
 use std::alloc::{AllocError, Global};
 use std::io::{ErrorKind, Print, Read, Write};
 use std::net::Net;
 use std::process::ExitCode;
 use std::sync::Wait;
 use std::thread::Threads;
-use std::{env, io};
 use thiserror::Error;
 
 /// Why the program ends without what it was asked for, with the words that it prints.

@@ -1,6 +1,11 @@
-pub mod inner
-pub mod Preferred
-pub mod Padding
+pub mod Classes
+pub mod Field
 pub mod Grouping
 pub mod KindView
-pub mod Classes
+pub mod LineByLine
+pub mod Padding
+pub mod Pieces
+pub mod Preferred
+pub mod PreferredText
+pub mod RuleLines
+pub mod inner

@@ -1,6 +1,6 @@
 //! What a malformed line of a configuration should be.
 use crate::holds::holds;
-use config_form::{Form, Malformed, form_at};
+use proxy_config::{Form, Malformed, form_at};
 use std::alloc::{AllocError, Global};
 
 /// Lines that are malformed, but for the first, and the last of which no line feed ends.

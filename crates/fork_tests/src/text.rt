@@ -1,8 +1,7 @@
 //! Fields and the lines of the rules, read and written.
 use crate::bytes::is;
 use crate::holds::holds;
-use fork_rank::Rules;
-use fork_text::{append, append_depth, append_list, append_preferred, read_depth, read_preferred, read_small_number, read_small_number_before, with_depth, with_preferred};
+use fork_rank::{Rules, append, append_depth, append_list, append_preferred, read_depth, read_preferred, read_small_number, read_small_number_before, with_depth, with_preferred};
 use std::alloc::Global;
 
 /// The number before a space, where the rest is this.

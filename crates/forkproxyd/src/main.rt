@@ -2,10 +2,11 @@
 #![tactic(auto)]
 
 use clap::{Arg, ArgAction, ArgMatches, Command, value_parser};
-use daemon_parts::{DaemonFault, Options, ProxyFiles};
-use fork_control::tell;
-use fork_daemon::{check_config, serve};
-use metrics_page::PageSockets;
+use control_socket::tell;
+use metrics::PageSockets;
+use service_files::{DaemonFault, Options, ProxyFiles};
+use service_threads::{check_config, serve};
+use std::{env, thread};
 use std::alloc::{AllocError, Global};
 use std::io::{Eprint, Print};
 use std::net::Net;
@@ -13,7 +14,6 @@ use std::process::ExitCode;
 use std::sync::Wait;
 use std::thread::Threads;
 use std::time::{Clock, Duration};
-use std::{env, thread};
 
 /// The exit status where the words ask for nothing.
 const USAGE: u8 = 2;

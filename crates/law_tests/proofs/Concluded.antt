@@ -7,7 +7,7 @@ use Rattle.call_model.specs.Call.{Call, rows_of}
 use Rattle.call_laws.specs.Answers.{AnswersOnce, AreGiven}
 use Rattle.call_laws.specs.Stages.{Leads, Stage, end_of}
 use Rattle.proxy_config.specs.Setup.{Setup}
-use Rattle.call_routing.specs.Opening.{Opens}
+use Rattle.fork_call.specs.Opening.{Opens}
 use Rattle.fork_call.specs.Answered.{EachDatagramIsRight, EachSuccessGoesUp, OneFinalAnswerGoesUp, OpenedCallsPayInOrder}
 use Rattle.fork_call.specs.Runs.{CallsHaveStages}
 use Rattle.law_tests.specs.Played.{HasEnded, PlayedCallsEndRight}

@@ -12,7 +12,7 @@ use Rattle.call_laws.specs.Answers.{AnswersOnce, PaysInOrder}
 use Rattle.call_laws.specs.Stages.{Stage}
 use Rattle.call_laws.specs.Successes.{GoesUp, PostsSuccess}
 use Rattle.proxy_config.specs.Setup.{Setup}
-use Rattle.call_routing.specs.Opening.{Opens}
+use Rattle.fork_call.specs.Opening.{Opens}
 use Rattle.fork_call.specs.Answered.{IsRight}
 use Rattle.fork_call.specs.Runs.{AnswerAt, AnswersAll, AreSaid, AreStages}
 

@@ -1,13 +1,12 @@
 //! A request that opens no call, and what the law says of its fault.
 ghost use Rattle.std.specs.Prelude.{◌≡◌, ◌≢◌, IfSome};
-ghost use Rattle.call_routing.specs.Opening.{IsOpenable};
+ghost use Rattle.fork_call.specs.Opening.{IsOpenable};
 ghost use Rattle.fork_call.specs.Refused.{HoldsAlone};
 
 use crate::playing::{holds, read_message};
 use crate::texts::INVITE_AT_ITS_END;
 use call_messages::one_target::{CALLER, SETUP};
-use call_routing::is_openable;
-use fork_call::{Call, RequestRejection, Setup, one_fault_holds};
+use fork_call::{Call, RequestRejection, Setup, is_openable, one_fault_holds};
 use sip_text::Message;
 use std::alloc::Global;
 

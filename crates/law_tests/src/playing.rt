@@ -1,7 +1,7 @@
 //! Calls on a call, as programs make them: what their contracts promise is a run of answers, as the laws take it.
 ghost use Rattle.std.specs.Prelude.{◌≡◌, false, true, IfSome};
 ghost use Rattle.call_model.specs.Due.{IsIdle};
-ghost use Rattle.call_routing.specs.Opening.{IsOpenable, Opens};
+ghost use Rattle.fork_call.specs.Opening.{IsOpenable, Opens};
 ghost use Rattle.law_tests.specs.Played.{HasEnded, IsPlayed};
 
 use call_messages::one_target::CALLER;

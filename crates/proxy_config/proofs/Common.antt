@@ -15,10 +15,10 @@ pub use Rattle.proxy_config.specs.Setup.{KeepsFrom, Location, MayFollow, Setup, 
 pub use Rattle.proxy_config.specs.Line.{IsLine}
 pub use Rattle.proxy_config.specs.LineReading.{fourth, location_cut, location_of, octet_before, octet_cut, own_at, own_cut, read_line, read_location, read_octets, read_own, second, third}
 pub use Rattle.proxy_config.specs.inner.Reading.{Draft, drafted, drafted_line, finished_draft, is_whole, no_draft, read_from}
-pub use Rattle.fork_text.proofs.laws.Field.{found_map, found_then}
-pub use Rattle.fork_text.proofs.laws.Lines.{all_append}
-pub use Rattle.fork_text.proofs.laws.Preferred.{preferred_found}
-pub use Rattle.fork_text.specs.Field.{most_q, number_before}
+pub use Rattle.fork_rank.proofs.laws.Field.{found_map, found_then}
+pub use Rattle.fork_rank.proofs.laws.Lines.{all_append}
+pub use Rattle.fork_rank.proofs.laws.Preferred.{preferred_found}
+pub use Rattle.fork_rank.specs.Field.{most_q, number_before}
 pub use Rattle.sip_lex.proofs.laws.Cuts.{Lacks-pass}
 pub use Rattle.sip_lex.specs.Cut.{Lacks, is}
 pub use Rattle.sip_uri.specs.Host.{is_host}

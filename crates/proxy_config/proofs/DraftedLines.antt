@@ -7,9 +7,9 @@ use Rattle.std.specs.Prelude.{◌&&◌, nat_lt}
 use Rattle.std.proofs.lemmas.Bool.{lt-ltb, ltb-true}
 use Rattle.fork_model.specs.Table.{Rules}
 use Rattle.fork_rank.specs.Preferred.{IsPreferredList, usual_preferred}
-use Rattle.fork_text.specs.LineByLine as texts
-use Rattle.fork_text.specs.RuleLines.{usual_rules}
-use Rattle.fork_text.proofs.laws.Lines.{all_back, drafted_append}
+use Rattle.fork_rank.specs.LineByLine as texts
+use Rattle.fork_rank.specs.RuleLines.{usual_rules}
+use Rattle.fork_rank.proofs.laws.Lines.{all_back, drafted_append}
 use Rattle.sip_uri.specs.Grammar.{IsUri, is_uri_byte}
 use Rattle.sip_uri.specs.Reading.{read_uri}
 use Rattle.sip_uri.specs.Uri.{Uri, spelling}

@@ -6,9 +6,9 @@ use Rattle.sip_lex.specs.Cut.{cut, behind}
 use Rattle.sip_lex.specs.Number.{plain_number_within}
 use Rattle.sip_lex.proofs.laws.Cuts.{cut_joins}
 use Rattle.sip_lex.proofs.laws.Numbers.{number_spelled}
-use Rattle.fork_text.specs.Field.{number_from}
-use Rattle.fork_text.specs.Preferred.{read_preferred}
-use Rattle.fork_text.proofs.laws.Field.{number_before_found, number_from_found}
+use Rattle.fork_rank.specs.Field.{number_from}
+use Rattle.fork_rank.specs.PreferredText.{read_preferred}
+use Rattle.fork_rank.proofs.laws.Field.{number_before_found, number_from_found}
 use Rattle.std.specs.Prelude.{bytes_eq}
 use Rattle.sip_uri.specs.declared.hop.Transport.TheVariants.{Udp}
 use Rattle.proxy_config.specs.Line.{no_host}

@@ -9,9 +9,9 @@ use Rattle.std.specs.List.{list_all}
 use Rattle.std.proofs.lemmas.Bool.{eqb-false}
 use Rattle.sip_lex.proofs.laws.Cuts.{cut_again, Lacks-append}
 use Rattle.sip_lex.proofs.laws.Numbers.{number_read, decimal_lacks}
-use Rattle.fork_text.specs.Field.{number_from, numbered_text}
-use Rattle.fork_text.proofs.laws.Field.{number_before_read, number_from_read}
-use Rattle.fork_text.proofs.laws.Preferred.{preferred_read, list_lacks}
+use Rattle.fork_rank.specs.Field.{number_from, numbered_text}
+use Rattle.fork_rank.proofs.laws.Field.{number_before_read, number_from_read}
+use Rattle.fork_rank.proofs.laws.Preferred.{preferred_read, list_lacks}
 use Rattle.sip_uri.specs.Host.{IsHost, is_host_byte, is_address_byte}
 use Rattle.sip_uri.specs.declared.hop.Transport.{Transport}
 use Rattle.sip_uri.specs.declared.hop.Transport.TheVariants.{Udp}

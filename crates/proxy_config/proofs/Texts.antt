@@ -4,7 +4,7 @@ use Rattle.proxy_config.proofs.Common.{read_line, Draft, no_draft, drafted_line,
 use Rattle.std.specs.Prelude.{IfOk, IfErr}
 use Rattle.std.proofs.lemmas.List.Splits.{join_with_byte-slice_split, length-slice_split}
 use Rattle.sip_lex.proofs.laws.Splits.{pieces_lack}
-use Rattle.fork_text.proofs.laws.Lines.{IsReader, read_lines, malformed, found, next_piece}
+use Rattle.fork_rank.proofs.laws.Lines.{IsReader, read_lines, malformed, found, next_piece}
 use Rattle.proxy_config.specs.declared.fault.SetupFault.{SetupFault}
 use Rattle.proxy_config.specs.declared.fault.SetupFault.TheVariants as fault
 use Rattle.proxy_config.specs.Configuration.{text_of, IsConfiguration, IsMalformedAt}

@@ -12,8 +12,8 @@ use Rattle.std.specs.Prelude.{◌≡◌, ◌≤◌, ℕ, suc, Bool, true, false,
 use Rattle.std.specs.List.{AllByRecursion}
 use Rattle.fork_model.specs.Table.{Rules, most_targets}
 use Rattle.fork_rank.specs.Preferred.{IsPreferredList, usual_preferred}
-use Rattle.fork_text.specs.LineByLine.{lines_text}
-use Rattle.fork_text.specs.RuleLines.{ended}
+use Rattle.fork_rank.specs.LineByLine.{lines_text}
+use Rattle.fork_rank.specs.RuleLines.{ended}
 use Rattle.sip_uri.specs.Grammar.{IsUri}
 use Rattle.sip_uri.specs.Host.{is_host}
 use Rattle.sip_uri.specs.Uri.{spelling}

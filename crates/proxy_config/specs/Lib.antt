@@ -1,8 +1,10 @@
-pub mod inner
-pub mod Setup
+pub mod Configuration
+pub mod Form
 pub mod Line
 pub mod LineReading
 pub mod LineView
 pub mod Parts
-pub mod Configuration
 pub mod ReadView
+pub mod Setup
+pub mod TextLine
+pub mod inner

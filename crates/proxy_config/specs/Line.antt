@@ -4,9 +4,9 @@ use Rattle.std.specs.List.{list_all, AllByRecursion}
 use Rattle.std.specs.Fmt.{decimal}
 use Rattle.fork_model.specs.Table.{most_targets}
 use Rattle.fork_rank.specs.Preferred.{IsPreferredList}
-pub use Rattle.fork_text.specs.Field.{is_visible}
-use Rattle.fork_text.specs.Field.{most_q, numbered_text}
-use Rattle.fork_text.specs.RuleLines.{prefer_text, depth_text}
+pub use Rattle.fork_rank.specs.Field.{is_visible}
+use Rattle.fork_rank.specs.Field.{most_q, numbered_text}
+use Rattle.fork_rank.specs.RuleLines.{prefer_text, depth_text}
 use Rattle.sip_uri.specs.Host.{is_host}
 use Rattle.sip_uri.specs.declared.hop.Transport.TheVariants.{Udp}
 use Rattle.sip_via.specs.Address.{address_text}

@@ -3,7 +3,7 @@ use Rattle.std.specs.Prelude.{◌≡◌, ◌&&◌, ℕ, not, nat_lt, Bool, true,
 use Rattle.std.specs.Option.{option_map}
 use Rattle.std.specs.List.{list_any}
 use Rattle.fork_model.specs.Table.{most_targets}
-use Rattle.fork_text.specs.RuleLines.{usual_rules}
+use Rattle.fork_rank.specs.RuleLines.{usual_rules}
 use Rattle.sip_uri.specs.Reading.{read_uri}
 use Rattle.sip_uri.specs.Uri.{Uri}
 use Rattle.sip_uri.specs.declared.fault.UriFault.{UriFault}

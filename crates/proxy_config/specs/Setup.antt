@@ -3,7 +3,7 @@
 use Rattle.std.specs.Prelude.{◌≡◌, ◌<◌, ◌≤◌, ℕ, ◌&&◌, ◌==◌, Bool, true, false, bytes_eq, List, [], ◌∷◌, ◌++◌, map, filter, length, Option, None, Some, slice_get, if◌then◌else◌}
 use Rattle.std.specs.List.{list_any, AllByRecursion}
 use Rattle.fork_model.specs.Table.{Rules, most_targets}
-use Rattle.fork_text.specs.Field.{most_q}
+use Rattle.fork_rank.specs.Field.{most_q}
 use Rattle.sip_uri.specs.declared.hop.Hop.{Hop}
 use Rattle.sip_uri.specs.declared.hop.Transport.{Transport}
 use Rattle.sip_uri.specs.declared.hop.Transport.TheVariants.{Udp, Tcp, Back}

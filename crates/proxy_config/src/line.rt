@@ -3,13 +3,12 @@ ghost use Rattle.std.specs.Prelude.{◌≡◌};
 ghost use Rattle.std.specs.Option.{option_map};
 ghost use Rattle.std.specs.List.{list_all};
 ghost use Rattle.sip_lex.specs.Number.{plain_number_within};
-ghost use Rattle.fork_text.specs.Field.{number_from, seen_before};
+ghost use Rattle.fork_rank.specs.Field.{number_from, seen_before};
 ghost use Rattle.proxy_config.specs.Line.{is_user, is_visible, most_instance, most_port};
 ghost use Rattle.proxy_config.specs.LineReading.{octet_before, read_octets, read_own, read_location, read_rest, read_line, word_of};
 ghost use Rattle.proxy_config.specs.LineView.{line_of};
 
-use fork_rank::Preferred;
-use fork_text::{Depth, read_depth, read_preferred, read_small_number, read_small_number_before};
+use fork_rank::{Depth, Preferred, read_depth, read_preferred, read_small_number, read_small_number_before};
 use sip_lex::{cut_at, read_plain_number};
 use sip_uri::is_host;
 use sip_via::Own;

@@ -1,6 +1,6 @@
 //! Where a user may be reached.
 ghost use Rattle.std.specs.Prelude.{◌≡◌, ◌≤◌};
-ghost use Rattle.fork_text.specs.Field.{most_q};
+ghost use Rattle.fork_rank.specs.Field.{most_q};
 ghost use Rattle.proxy_config.specs.Setup.{is_of_user, next_hop, with_longest};
 
 use sip_uri::{Hop, SipUri};
@@ -23,7 +23,7 @@ pub struct Location<A: Allocator = Global> {
 
 impl<A: Allocator> Model for Location<A> {
     ghost use Rattle.std.specs.Prelude.{◌≤◌};
-    ghost use Rattle.fork_text.specs.Field.{most_q};
+    ghost use Rattle.fork_rank.specs.Field.{most_q};
     ghost use Rattle.proxy_config.specs.Setup as spec;
 
     ghost Value = { spec.Location };

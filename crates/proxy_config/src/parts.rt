@@ -2,7 +2,7 @@
 ghost use Rattle.std.specs.Prelude.{◌≡◌, ◌≤◌, IfOk, Some, None, if◌then◌else◌};
 ghost use Rattle.std.specs.Option.{option_map};
 ghost use Rattle.sip_uri.specs.Reading.{read_uri};
-ghost use Rattle.fork_text.specs.Field.{most_q};
+ghost use Rattle.fork_rank.specs.Field.{most_q};
 ghost use Rattle.proxy_config.specs.Line.{IsLine};
 ghost use Rattle.proxy_config.specs.LineView.{line_of};
 ghost use Rattle.proxy_config.specs.Parts.{no_setup, uri_if, with_line, with_location};
@@ -12,8 +12,7 @@ use crate::line::SetupLine;
 use crate::listed::ListedLocations;
 use crate::location::{Location, USUAL_LONGEST};
 use crate::setup::Setup;
-use fork_rank::Rules;
-use fork_text::{with_depth, with_preferred};
+use fork_rank::{Rules, with_depth, with_preferred};
 use sip_uri::{SipUri, UriFault};
 use sip_via::Own;
 use std::alloc::{AllocError, Allocator, Global};

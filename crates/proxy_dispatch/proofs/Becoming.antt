@@ -21,7 +21,7 @@ use Rattle.proxy_routing.specs.declared.unrouted.Unrouted.TheVariants as unroute
 use Rattle.proxy_routing.specs.Admission.{IsPrepared}
 use Rattle.proxy_routing.specs.Refusing.{status_of_fault}
 use Rattle.proxy_routing.specs.Unrouted.{IfRejected, IsTurnedBack, fault_of}
-use Rattle.call_routing.specs.Opening.{Opens}
+use Rattle.fork_call.specs.Opening.{Opens}
 use Rattle.proxy_dispatch.specs.Asking.{asks_service}
 use Rattle.proxy_dispatch.specs.Admitting.{opener_of}
 use Rattle.proxy_dispatch.specs.Becomes.{AdmittedBecomes, AskedBecomes, Becomes, BecomesBy, KeyBecomes, LooksFor, MessageBecomes, NewBecomes, RequestBecomes, UnknownBecomes}

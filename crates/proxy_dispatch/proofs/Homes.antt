@@ -5,7 +5,7 @@ use Rattle.sip_via.specs.declared.branch.BranchName.{BranchName}
 use Rattle.sip_via.specs.BranchText.{IsBranch}
 use Rattle.sip_via.specs.OwnPass.{IsOwnBranch}
 use Rattle.sip_via.specs.TopVia.{top_value}
-use Rattle.call_routing.specs.Matching.{IsReadBranch}
+use Rattle.call_state.specs.Matching.{IsReadBranch}
 use Rattle.proxy_dispatch.specs.Becomes.{IsHome}
 
 -- the branch that is read is the only one

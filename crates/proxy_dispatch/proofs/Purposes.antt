@@ -7,8 +7,8 @@ use Rattle.sip_text.specs.declared.method.Method.TheVariants as methods
 use Rattle.sip_text.specs.Method.{known_method, stands_alone}
 use Rattle.sip_text.specs.Text.{StartText, Request, Response}
 use Rattle.sip_build.specs.Forwarding.{is_request}
-use Rattle.call_routing.specs.Kinds.{is_response}
-use Rattle.call_routing.specs.Opening.{IsOpenable}
+use Rattle.call_state.specs.Kinds.{is_response}
+use Rattle.fork_call.specs.Opening.{IsOpenable}
 use Rattle.proxy_dispatch.specs.Purpose.{purpose_by, purpose_of}
 
 -- what is neither an ACK nor a CANCEL may open a call

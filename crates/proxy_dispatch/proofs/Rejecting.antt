@@ -19,7 +19,7 @@ use Rattle.proxy_routing.specs.Admission.{IsPrepared}
 use Rattle.proxy_routing.specs.Unrouted.{IfRejected}
 use Rattle.proxy_routing.specs.Refusing.{status_of_fault}
 use Rattle.proxy_routing.proofs.laws.OwnRoutes.{kept}
-use Rattle.call_routing.specs.Opening.{IsRefusedFor}
+use Rattle.fork_call.specs.Opening.{IsRefusedFor}
 use Rattle.proxy_dispatch.specs.declared.datagrams.Handled.TheVariants.{Answered}
 use Rattle.proxy_dispatch.specs.Becomes.{IsRejected}
 use Rattle.proxy_dispatch.specs.Sent.{answer_made, answer_of, answer_to}

@@ -4,7 +4,7 @@ use Rattle.std.specs.Prelude.{IfOk, IsErrOf, OnErr}
 use Rattle.call_model.specs.SeenTaken.{seen_taken}
 use Rattle.call_model.specs.Take.{MatchedTransaction, Server, ServerAck, ServerCancel, Client, CancelClient, Taken, Absorbed, Posted, Full, TakesAs, TakesCancel, Responds, RespondsOn, CancelledBy}
 use Rattle.call_model.specs.declared.taken.Taken as memory
-use Rattle.call_routing.specs.Matching.{BelongsToNone}
+use Rattle.call_state.specs.Matching.{BelongsToNone}
 use Rattle.fork_call.specs.declared.fault.TakeFault.{TakeFault}
 use Rattle.fork_call.specs.declared.fault.TakeFault.TheVariants as fault
 use Rattle.fork_call.specs.Takes.{Takes}

@@ -2,7 +2,7 @@
 use Rattle.std.specs.Prelude.{ℕ, Bool, List, Option, Some, None}
 use Rattle.sip_text.specs.declared.needed.MandatoryHeader.TheVariants.{To}
 use Rattle.sip_text.specs.Fields.{value_of}
-use Rattle.sip_text.specs.Tag.{tag_in}
+use Rattle.sip_lex.specs.Tag.{tag_in}
 use Rattle.sip_text.specs.Text.{MessageText}
 use Rattle.proxy_dispatch.specs.declared.admission.Opener.{Opener}
 use Rattle.proxy_dispatch.specs.declared.admission.Opener.TheVariants.{OutsideDialog, WithinDialog}

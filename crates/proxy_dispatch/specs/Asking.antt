@@ -5,7 +5,7 @@ use Rattle.sip_text.specs.declared.method.Method.TheVariants as methods
 use Rattle.sip_text.specs.declared.needed.MandatoryHeader.TheVariants.{To}
 use Rattle.sip_text.specs.Fields.{value_of}
 use Rattle.sip_text.specs.Method.{known_method}
-use Rattle.sip_text.specs.Tag.{tag_in}
+use Rattle.sip_lex.specs.Tag.{tag_in}
 use Rattle.sip_text.specs.Text.{MessageText}
 use Rattle.sip_uri.specs.declared.fault.UriFault.{UriFault}
 use Rattle.sip_uri.specs.Uri.{Uri}

@@ -23,8 +23,8 @@ use Rattle.call_model.specs.declared.taken.Taken.{Taken}
 use Rattle.proxy_routing.specs.declared.fault.RequestRejection.{RequestRejection}
 use Rattle.proxy_routing.specs.Admission.{IsPrepared}
 use Rattle.proxy_routing.specs.Refusing.{status_of_fault}
-use Rattle.call_routing.specs.Matching.{BelongsToNone}
-use Rattle.call_routing.specs.Opening.{Opens, Refuses}
+use Rattle.call_state.specs.Matching.{BelongsToNone}
+use Rattle.fork_call.specs.Opening.{Opens, Refuses}
 use Rattle.fork_call.specs.Takes.{Takes}
 use Rattle.proxy_dispatch.specs.declared.datagrams.Handled.{Handled}
 use Rattle.proxy_dispatch.specs.declared.datagrams.Handled.TheVariants.{Dropped, Absorbed, Answered, TurnedAway, Forwarded, Opened, Delivered}

@@ -2,7 +2,7 @@
 use Rattle.std.specs.Prelude.{◌≡◌, ◌⊎◌, ℕ, true, false, Option, Some, None, Ok}
 use Rattle.sip_text.specs.declared.needed.MandatoryHeader.TheVariants.{To}
 use Rattle.sip_text.specs.Fields.{value_of}
-use Rattle.sip_text.specs.Tag.{tag_in}
+use Rattle.sip_lex.specs.Tag.{tag_in}
 use Rattle.sip_text.specs.Text.{MessageText}
 use Rattle.sip_uri.specs.declared.hop.Hop.{Hop}
 use Rattle.sip_uri.specs.Uri.{Uri}

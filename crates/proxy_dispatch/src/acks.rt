@@ -13,8 +13,7 @@ ghost use Rattle.proxy_dispatch.specs.inner.Sent.{seen_sent};
 
 use crate::datagrams::Handled;
 use crate::outcome::Outcome;
-use call_routing::admitted_target;
-use fork_call::{Cause, Datagram, Setup};
+use fork_call::{Cause, Datagram, Setup, admitted_target};
 use proxy_routing::{hop_by, is_responsible_for, validate_request};
 use sip_build::{own_tag, write_forwarded};
 use sip_route::{first_route, loop_key};

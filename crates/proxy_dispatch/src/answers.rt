@@ -11,7 +11,7 @@ ghost use Rattle.sip_build.specs.Generated.{code_of, generated_of};
 ghost use Rattle.call_model.specs.SeenDatagram.{seen};
 ghost use Rattle.proxy_config.specs.Setup.{Setup};
 ghost use Rattle.proxy_routing.specs.Refusing.{status_of_fault};
-ghost use Rattle.call_routing.specs.Opening.{IsRefusedFor};
+ghost use Rattle.fork_call.specs.Opening.{IsRefusedFor};
 ghost use Rattle.proxy_dispatch.specs.declared.datagrams.Handled.TheVariants as handled;
 ghost use Rattle.proxy_dispatch.specs.Becomes.{IsRejected};
 ghost use Rattle.proxy_dispatch.specs.Sent.{answer_of, answer_to, capabilities_to, unavailable_to};

@@ -3,8 +3,8 @@ ghost use Rattle.std.specs.Prelude.{◌≡◌, Some, true, IfErr, IfNone, IfOk, 
 ghost use Rattle.sip_via.specs.TopVia.{top_value};
 ghost use Rattle.call_model.specs.Call as spec;
 ghost use Rattle.call_model.specs.Call.{numbered};
-ghost use Rattle.call_routing.specs.Kinds.{is_response};
-ghost use Rattle.call_routing.specs.Matching.{IsReadBranch};
+ghost use Rattle.call_state.specs.Kinds.{is_response};
+ghost use Rattle.call_state.specs.Matching.{IsReadBranch};
 ghost use Rattle.call_table.specs.Faults.{IfKnown, IfSpent};
 ghost use Rattle.proxy_dispatch.specs.Looks.{AnswersTake, Found, Missed, Put, Seen, Spent, shown};
 

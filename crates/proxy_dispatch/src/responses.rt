@@ -1,8 +1,8 @@
 //! Responses: for the call that their top Via value names.
 ghost use Rattle.std.specs.Prelude.{◌≡◌, ℕ, List, IfNone, IfOk, IfSome, true};
 ghost use Rattle.sip_via.specs.TopVia.{top_value};
-ghost use Rattle.call_routing.specs.Kinds.{is_response};
-ghost use Rattle.call_routing.specs.Matching.{IsReadBranch};
+ghost use Rattle.call_state.specs.Kinds.{is_response};
+ghost use Rattle.call_state.specs.Matching.{IsReadBranch};
 ghost use Rattle.proxy_dispatch.specs.Becomes.{IsHome, ResponseBecomes};
 ghost use Rattle.proxy_dispatch.specs.Looks.{Look, shown, ShowsAll};
 ghost use Rattle.proxy_dispatch.specs.inner.Sent.{seen_sent};

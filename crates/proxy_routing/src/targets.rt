@@ -2,7 +2,7 @@
 ghost use Rattle.std.specs.Prelude.{◌≡◌, ◌≤◌, ◌++◌, ◌∷◌, [], map, IfOk, OnOk};
 ghost use Rattle.std.specs.List.{list_all};
 ghost use Rattle.std.specs.Option.{option_copied};
-ghost use Rattle.fork_text.specs.Field.{most_q};
+ghost use Rattle.fork_rank.specs.Field.{most_q};
 ghost use Rattle.proxy_config.specs.Setup.{locations_of};
 ghost use Rattle.proxy_routing.specs.Targets.{candidate_at, candidate_to, candidates_by, candidates_of, has_hop, hop_by, hop_if_any, hop_over, is_domain, is_own, is_own_port, is_reached, reachable, target_of, targets_of};
 
@@ -29,7 +29,7 @@ pub struct CandidateTarget<'a, A: Allocator> {
 
 impl<'a, A: Allocator> Model for CandidateTarget<'a, A> {
     ghost use Rattle.std.specs.Prelude.{◌≤◌};
-    ghost use Rattle.fork_text.specs.Field.{most_q};
+    ghost use Rattle.fork_rank.specs.Field.{most_q};
     ghost use Rattle.proxy_routing.specs.Targets as spec;
 
     ghost Value = { spec.CandidateTarget };

@@ -1,11 +1,11 @@
 -- The configuration of a service.
 use Rattle.std.specs.Prelude.{◌≡◌, ℕ, Bool, true, List, if◌then◌else◌}
 use Rattle.proxy_config.specs.Setup.{Setup}
-use Rattle.daemon_parts.specs.Configured.{IsConfigured}
-use Rattle.daemon_parts.specs.Faults.{IsFaultOf}
-use Rattle.daemon_parts.specs.declared.fault.DaemonFault.{DaemonFault}
-use Rattle.daemon_parts.specs.declared.fault.DaemonFault.TheVariants as fault
-use Rattle.daemon_parts.specs.declared.setup.Identity.{Identity}
+use Rattle.service_files.specs.Configured.{IsConfigured}
+use Rattle.service_files.specs.Faults.{IsFaultOf}
+use Rattle.service_files.specs.declared.fault.DaemonFault.{DaemonFault}
+use Rattle.service_files.specs.declared.fault.DaemonFault.TheVariants as fault
+use Rattle.service_files.specs.declared.setup.Identity.{Identity}
 use Rattle.proxy_service.specs.declared.terms.RunSettings.{RunSettings}
 
 -- by it all own Route values at the front of a request are taken away, a 100 has the Timestamp of its request, and a CANCEL says why

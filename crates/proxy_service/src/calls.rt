@@ -4,16 +4,15 @@ ghost use Rattle.std.specs.Bool.{OnFalse};
 ghost use Rattle.fork_model.specs.Log.{core_of};
 ghost use Rattle.fork_model.specs.Table.{is_finished};
 
+use crate::marks::Marks;
 use crate::notes::NoteTables;
 use crate::refusals::Refusals;
 use crate::walk::Walk;
-use call_table::Shelf;
-use daemon_parts::Marks;
+use call_table::{Schedule, Shelf};
 use fork_call::Call;
-use fork_clock::Schedule;
 use std::alloc::{AllocError, Allocator, Global};
-use std::sync::atomic::{AtomicU64, Ordering};
 use std::sync::{Mutex, Wait};
+use std::sync::atomic::{AtomicU64, Ordering};
 
 /// How many calls are looked at before the time is read anew.
 const MOST_LOOKED: u32 = 4_096;

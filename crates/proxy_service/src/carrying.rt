@@ -2,7 +2,7 @@
 ghost use Rattle.std.specs.Prelude.{◌≡◌, ◌≤◌, ◌↔◌, ◌+◌, ◌-◌, ◌*◌, ◌/◌, ◌^◌, min, IsTrue};
 ghost use Rattle.std.specs.Bool.{OnTrue};
 ghost use Rattle.call_model.specs.Due.{IsOver};
-ghost use Rattle.call_over.specs.Quiet.{IsQuietWithoutOwed};
+ghost use Rattle.call_laws.specs.Quiet.{IsQuietWithoutOwed};
 ghost use Rattle.fork_model.specs.Log.{core_of};
 ghost use Rattle.proxy_service.specs.Next.{EndsBy, IsNext};
 
@@ -10,12 +10,12 @@ use crate::answers::AnswerPort;
 use crate::notes::NoteTables;
 use crate::service::Service;
 use crate::targets::TargetSet;
-use call_over::calls_that_are_over_are_quiet;
+use call_laws::calls_that_are_over_are_quiet;
 use call_table::Removal;
 use fork_call::{Call, Port, carry};
+use std::thread;
 use std::alloc::{AllocError, Allocator};
 use std::sync::Wait;
-use std::thread;
 use std::time::{Clock, Duration, SystemTime};
 
 /// How many milliseconds pass until a call is looked at again that another thread looked at.

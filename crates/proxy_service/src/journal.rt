@@ -5,9 +5,8 @@ ghost use Rattle.proxy_service.specs.Journal.{WritesDown};
 
 use call_journal::{CallRecord, Note, append_call};
 use fork_call::Call;
-use sip_route::request_uri;
+use sip_route::{first_value, request_uri};
 use sip_text::Message;
-use sip_via::first_value;
 use std::alloc::{AllocError, Allocator};
 
 /// The method of a request.

@@ -8,12 +8,9 @@
 mod answers;
 mod calls;
 mod carrying;
-mod draining;
 mod journal;
-mod lifetime;
+mod marks;
 mod notes;
-mod queue;
-mod quota;
 mod refusals;
 mod service;
 mod setup;
@@ -25,7 +22,6 @@ mod timing;
 mod walk;
 
 pub use journal::append_block;
-pub use lifetime::ServiceState;
-pub use queue::{Batch, JournalQueue};
+pub use marks::Marks;
 pub use service::Service;
 pub use terms::RunSettings;

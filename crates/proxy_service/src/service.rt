@@ -1,15 +1,14 @@
 //! What the threads of a service share.
 use crate::calls::ServiceCalls;
-use crate::lifetime::{Lifetime, ServiceState};
-use crate::queue::JournalQueue;
-use crate::quota::Quota;
 use crate::setup::{service_setup, setup_of};
 use crate::terms::RunSettings;
-use daemon_parts::{Counts, DaemonFault, Gauges};
+use call_table::Schedule;
 use fork_call::Setup;
-use fork_clock::Schedule;
-use std::alloc::{AllocError, Allocator, Global};
+use metrics::{Counts, Gauges};
+use service_admission::{Lifetime, Quota, ServiceState};
+use service_files::{DaemonFault, JournalQueue};
 use std::mem;
+use std::alloc::{AllocError, Allocator, Global};
 use std::sync::{RwLock, Wait};
 
 /// How many milliseconds a second has.

@@ -3,8 +3,8 @@ ghost use Rattle.std.specs.Prelude.{◌≡◌, ◌↔◌, IfErr, IfOk, IsTrue};
 ghost use Rattle.proxy_service.specs.Setups.{IsOf, IsReloadFault, IsServiceSetup, by_port_if, recording_if, service_setup};
 
 use crate::terms::RunSettings;
-use daemon_parts::{DaemonFault, Identity, read_text};
 use fork_call::Setup;
+use service_files::{DaemonFault, Identity, read_text};
 use std::alloc::Allocator;
 
 /// The setup with its own address counting as the domain with the own port alone, if that is asked for.

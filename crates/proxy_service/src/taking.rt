@@ -1,9 +1,8 @@
 //! What a service does with a datagram.
-use crate::quota::QuotaAt;
 use crate::service::Service;
-use daemon_parts::is_keep_alive;
 use fork_call::Port;
 use proxy_dispatch::{Handled, Received, SharedCalls, handle};
+use service_admission::{QuotaAt, is_keep_alive};
 use std::alloc::{AllocError, Allocator};
 use std::sync::Wait;
 use std::time::Clock;

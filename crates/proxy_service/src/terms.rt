@@ -1,5 +1,5 @@
 //! What a service keeps to.
-use daemon_parts::Identity;
+use service_files::Identity;
 
 /// What a service keeps to as long as it runs, whichever configuration it reads meanwhile.
 #[derive(Clone, Copy)]

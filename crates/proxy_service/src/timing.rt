@@ -1,8 +1,8 @@
 //! What a service does at a moment.
 use crate::calls::Search;
-use crate::draining::Seen;
 use crate::service::Service;
 use fork_call::Port;
+use service_admission::Seen;
 use std::alloc::Allocator;
 use std::sync::Wait;
 use std::time::Clock;

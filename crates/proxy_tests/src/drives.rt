@@ -4,7 +4,7 @@ use crate::limits::repeated;
 use crate::play::{answered, is_text, listing_in};
 use crate::replays::{BEST, CHALLENGES, CLOSING, CONTACTS};
 use fork_context::NewFault;
-use fork_drive::{ProgramCommand, drive_text};
+use fork_engine::{ProgramCommand, drive_text};
 use fork_program::{Fault, ProgFault, TextCommand};
 use std::alloc::{AllocError, Global};
 use std::process::Abort;

@@ -1,6 +1,6 @@
 //! The scripts of `examples/`, and what the program prints of each.
 use crate::holds::holds_of;
-use fork_drive::ProgramCommand;
+use fork_engine::ProgramCommand;
 use fork_program::{Fault, TextCommand};
 use std::alloc::Global;
 use std::process::Abort;

@@ -1,9 +1,9 @@
 //! Inputs that fail or never end, and outputs that fail or take little.
 use crate::holds::{holds, holds_of};
-use fork_drive::ProgramCommand;
+use fork_engine::ProgramCommand;
 use fork_program::{Fault, MOST_TEXT, TextCommand, read_input};
 use std::alloc::Global;
-use std::io::{self, ErrorKind, Read, Write};
+use std::io::{ErrorKind, Read, Write, self};
 use std::sync::Wait;
 use std::thread::Threads;
 

@@ -1,11 +1,11 @@
 //! The commands of the program, from an input to an output, where growths of memory are refused: `drive` runs in the memory
 //! that is refused, its workers too.
 use crate::holds::holds_of;
-use fork_drive::ProgramCommand;
+use failing_allocator::Refusing;
+use fork_engine::ProgramCommand;
 use fork_program::TextCommand;
-use refusing::Refusing;
 use std::alloc::Global;
-use std::io::{self, Write};
+use std::io::{Write, self};
 use std::process::Abort;
 use std::sync::Wait;
 use std::thread::Threads;

@@ -1,5 +1,5 @@
 //! What a call comes to that makes a value.
-use refusing::{Attempt, Heap};
+use failing_allocator::{Attempt, Heap};
 
 /// Tells whether what a call makes is right.
 pub trait Judge<'a, T> {

@@ -4,10 +4,10 @@ use crate::forks::{Aims, EventList, events, targets};
 use crate::plays::{calls, plays};
 use crate::sources::Alloc;
 use crate::texts::BOOK_SCRIPT;
+use failing_allocator::{Attempt, Heap, Play, Repeated, Stateless};
 use fork_book::Book;
 use fork_context::{Choice, Event, Kind, NewFault, PostError, Up};
 use fork_rank::Rules;
-use refusing::{Attempt, Heap, Play, Repeated, Stateless};
 use std::mem;
 
 /// The targets of the script.

@@ -1,6 +1,6 @@
 //! What an allocator refuses that is told to refuse growths.
 use crate::plays::holds;
-use refusing::Refusing;
+use failing_allocator::Refusing;
 use std::alloc::{Allocator, Global};
 
 /// How many of nine numbers fit into a vector that begins with no room.

@@ -3,8 +3,8 @@ use crate::plays::plays;
 use crate::sources::Alloc;
 use crate::texts::{BEST_LISTING, LATE_LISTING};
 use bumpalo::Bump;
+use failing_allocator::{Attempt, Heap, Play, Repeated};
 use fork_listing::{CheckFault, Verdict, check};
-use refusing::{Attempt, Heap, Play, Repeated};
 
 /// A listing, and what a check of it finds.
 #[derive(Clone, Copy)]

@@ -2,7 +2,7 @@
 use crate::answers::{Judge, discard, judged};
 use crate::plays::calls;
 use crate::sources::{Alloc, REQUEST, Wanted, read, target};
-use refusing::{Attempt, Heap, Stateless};
+use failing_allocator::{Attempt, Heap, Stateless};
 use sip_uri::{Contact, SipUri, UriFault, read_contacts};
 use sip_via::{Via, ViaFault};
 use std::alloc::AllocError;

@@ -1,8 +1,8 @@
 //! Deadlines that are added while memory is refused.
 use crate::plays::{holds, plays};
 use crate::sources::Alloc;
-use fork_clock::{Epoch, Schedule, ThreadClock};
-use refusing::{Attempt, Heap, Play, Refusing, Repeated};
+use call_table::{Epoch, Schedule, ThreadClock};
+use failing_allocator::{Attempt, Heap, Play, Refusing, Repeated};
 use std::sync::Wait;
 use std::test::Fail;
 

@@ -5,7 +5,7 @@ use crate::answers::discard;
 use crate::plays::{calls, holds, plays};
 use crate::sources::Alloc;
 use call_table::{Inbox, InboxIn, InboxOut, Numbered, Removal, Shelf, ShelfFault};
-use refusing::{Attempt, Heap, Play, Refusing, Repeated, Stateless, refused_once};
+use failing_allocator::{Attempt, Heap, Play, Refusing, Repeated, Stateless, refused_once};
 use std::alloc::Global;
 use std::sync::Wait;
 

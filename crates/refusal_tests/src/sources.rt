@@ -1,6 +1,6 @@
 //! Messages and a URI that are read, for calls that are made of them.
 use crate::answers::{Judge, answered, discard};
-use refusing::{Attempt, Heap, Refusing};
+use failing_allocator::{Attempt, Heap, Refusing};
 use sip_text::{Message, ReadFault};
 use sip_uri::{Hop, SipUri, Transport, UriFault};
 use sip_via::{BranchName, Own};

@@ -6,9 +6,9 @@ ghost use Rattle.fork_tree.specs.Given.{AreRows};
 use crate::answers::{Judge, judged};
 use crate::plays::calls;
 use crate::sources::Alloc;
+use failing_allocator::{Attempt, Heap, Stateless};
 use fork_rank::{Rules, Status, groups};
 use fork_tree::{End, ForkTree, NewRows, RowRef, State};
-use refusing::{Attempt, Heap, Stateless};
 use std::alloc::AllocError;
 
 /// What is made.

@@ -19,10 +19,9 @@ use crate::expirations::AskedExpirations;
 use crate::source::Source;
 use authentication::{Challenger, Domain, OwnAnswer, RealmSecrets, Standing, is_of_domain, party_uri, standing_of, turned_away};
 use sip_build::OwnStatus;
-use sip_route::append_request_key;
+use sip_route::{append_request_key, first_value};
 use sip_text::{Message, header_values_are_values};
 use sip_uri::SipUri;
-use sip_via::first_value;
 use std::alloc::{AllocError, Allocator, Global};
 
 /// What a registrar goes by.

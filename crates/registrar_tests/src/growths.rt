@@ -6,7 +6,7 @@ use crate::requests::{joined, request};
 use crate::world::{EXPIRATIONS, SECOND, domain, realm, users};
 use authentication::OwnAnswer;
 use bindings::UserBindings;
-use refusing::{Attempt as Told, Heap, Single, Stateless, refused_once};
+use failing_allocator::{Attempt as Told, Heap, Single, Stateless, refused_once};
 use registrar::{Asking, RegisterOutcome, Registrar, Registration, Source, asking_of, okay};
 use sip_build::own_tag;
 use sip_text::Message;

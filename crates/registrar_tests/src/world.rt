@@ -1,10 +1,9 @@
 //! The proxy of the tests: its domain, its realm, and who has a password there.
 use authentication::{Domain, RealmSecrets};
 use registrar::AskedExpirations;
-use sip_digest::Algorithms;
+use sip_digest::{Algorithms, UserList, append_user};
 use sip_via::Own;
 use std::alloc::{AllocError, Global};
-use user_list::{UserList, append_user};
 
 /// What nonces and tokens are made with.
 pub const SECRET: [u8; 32] = [7; 32];

@@ -1,7 +1,7 @@
 //! A call through a proxy, whose caller and target are sockets of this process.
 use crate::holds::holds;
 use crate::printed::Printed;
-use proxy_server::serve_to;
+use serve_command::serve_to;
 use std::alloc::Global;
 use std::net::{Ipv4Addr, Net, SocketAddr, SocketAddrV4, UdpSocket};
 use std::test::Fail;

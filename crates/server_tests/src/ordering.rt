@@ -2,8 +2,9 @@
 //! declines at once. One socket of this process is the caller and all targets.
 use crate::holds::holds;
 use crate::printed::Printed;
+use call_affinity::call_id;
 use log::Log;
-use proxy_server::serve_to;
+use serve_command::serve_to;
 use sip_lex::cut_at;
 use std::alloc::{AllocError, Global};
 use std::net::{Ipv4Addr, Net, SocketAddr, SocketAddrV4, UdpSocket};
@@ -12,7 +13,6 @@ use std::sync::atomic::{AtomicU64, Ordering};
 use std::test::Fail;
 use std::thread::{Threads, join};
 use std::time::Duration;
-use worker_jobs::call_id;
 
 /// How many calls are begun and cancelled.
 const CALLS: usize = 800;

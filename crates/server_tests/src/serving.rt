@@ -1,7 +1,7 @@
 //! A proxy that is set up, serves and ends.
 use crate::holds::holds;
 use crate::printed::Printed;
-use proxy_server::{ServeFault, serve_to};
+use serve_command::{ServeFault, serve_to};
 use std::alloc::{AllocError, Global};
 use std::test::Fail;
 

@@ -12,8 +12,8 @@ pub use Rattle.sip_lex.specs.Cut.{Lacks, behind, cut, is}
 pub use Rattle.sip_lex.specs.Number.{plain_number_within}
 pub use Rattle.sip_lex.proofs.laws.Cuts.{Lacks-append, Lacks-pass, cut_again, cut_joins, cut_lacks}
 pub use Rattle.sip_lex.proofs.laws.Numbers.{decimal_lacks, number_read, number_spelled}
-pub use Rattle.fork_text.specs.Field.{most_q, number_before, number_from}
-pub use Rattle.fork_text.proofs.laws.Field.{found_map, found_one, found_then, number_before_found, number_before_read, number_from_found, number_from_read}
+pub use Rattle.fork_rank.specs.Field.{most_q, number_before, number_from}
+pub use Rattle.fork_rank.proofs.laws.Field.{found_map, found_one, found_then, number_before_found, number_before_read, number_from_found, number_from_read}
 pub use Rattle.sip_digest.specs.Algorithm.{algorithms_named}
 pub use Rattle.sip_digest.specs.declared.algorithm.Algorithms.{Algorithms}
 pub use Rattle.service_config.specs.Kind.{is_from_domain, is_whole, kind_of, may_follow, place_of}

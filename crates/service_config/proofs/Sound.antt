@@ -2,7 +2,7 @@
 use Rattle.service_config.proofs.Common.{◌≡◌, ℕ, ◌≤◌, Bool, true, false, cond, List, [], ◌∷◌, ◌++◌, length, Option, Some, None, is_some, refl, ap, sym, subst, ◌∙◌, arith, append_assoc, append-nil, option_map, option_and_then, and_parts, cond_some, same_Some, found_map, found_then}
 use Rattle.service_config.proofs.Common.{◌==◌, ◌&&◌, ◌||◌, HasParts, Line, SetupLine, RingLine, RealmLine, ExpiresLine, StrangersLine, TrustLine, GatewayLine, LocationLine, CommentLine, is_from_domain, is_whole, kind_of, may_follow, place_of}
 use Rattle.std.specs.Prelude.{nat_le}
-use Rattle.fork_text.specs.Field.{most_q}
+use Rattle.fork_rank.specs.Field.{most_q}
 use Rattle.sip_uri.specs.Host.{is_host}
 use Rattle.sip_uri.specs.Reading.{read_uri}
 use Rattle.sip_uri.specs.Uri.{Uri}

@@ -3,7 +3,7 @@ use Rattle.service_config.proofs.Common.{◌≡◌, ℕ, ◌+◌, ◌<◌, Bool,
 use Rattle.std.specs.Prelude.{IfOk, IfErr}
 use Rattle.std.proofs.lemmas.List.Splits.{join_with_byte-slice_split, length-slice_split}
 use Rattle.sip_lex.proofs.laws.Splits.{pieces_lack}
-use Rattle.fork_text.proofs.laws.Lines.{IsReader, found, malformed, next_piece, read_lines}
+use Rattle.fork_rank.proofs.laws.Lines.{IsReader, found, malformed, next_piece, read_lines}
 use Rattle.proxy_config.specs.declared.fault.SetupFault.{SetupFault}
 use Rattle.proxy_config.specs.declared.fault.SetupFault.TheVariants as fault
 use Rattle.service_config.specs.Configuration.{AreLines, Draft, IsMalformedAt, IsServiceConfiguration, no_draft, text_of, with_draft}

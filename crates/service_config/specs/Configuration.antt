@@ -12,8 +12,8 @@
 use Rattle.std.specs.Prelude.{◌≡◌, ℕ, suc, true, List, [], ◌∷◌, ◌++◌, length, Option, Some, None, if◌then◌else◌}
 use Rattle.std.specs.List.{AllByRecursion}
 use Rattle.std.specs.Option.{option_map}
-use Rattle.fork_text.specs.LineByLine.{drafted_lines, lines_text}
-use Rattle.fork_text.specs.RuleLines.{ended}
+use Rattle.fork_rank.specs.LineByLine.{drafted_lines, lines_text}
+use Rattle.fork_rank.specs.RuleLines.{ended}
 use Rattle.service_config.specs.Kind.{is_whole, kind_of, may_follow}
 use Rattle.service_config.specs.Line.{IsLine, Line, line_text}
 use Rattle.service_config.specs.Settings.{Settings, no_settings, with_line}

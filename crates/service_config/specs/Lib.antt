@@ -1,8 +1,11 @@
-pub mod inner
-pub mod Net
-pub mod Line
-pub mod Kind
-pub mod Settings
 pub mod Configuration
+pub mod Kind
+pub mod Line
+pub mod Net
 pub mod ReadView
 pub mod RealmView
+pub mod ServiceForm
+pub mod Settings
+pub mod UserLine
+pub mod Users
+pub mod inner

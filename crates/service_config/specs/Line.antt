@@ -4,7 +4,7 @@ use Rattle.std.specs.Fmt.{decimal}
 use Rattle.std.specs.List.{list_all}
 use Rattle.std.specs.Option.{option_map}
 use Rattle.sip_lex.specs.Cut.{Lacks, behind}
-use Rattle.fork_text.specs.Field.{is_visible, most_q, numbered_text}
+use Rattle.fork_rank.specs.Field.{is_visible, most_q, numbered_text}
 use Rattle.sip_digest.specs.declared.algorithm.Algorithms.{Algorithms}
 use Rattle.sip_digest.specs.declared.algorithm.Algorithms.TheVariants as algorithms
 use Rattle.proxy_config.specs.Line as setup

@@ -2,7 +2,7 @@
 use Rattle.std.specs.Prelude.{◌≡◌, ◌≤◌, ◌==◌, ◌&&◌, ◌||◌, ℕ, ◌*◌, not, nat_lt, Bool, true, false, is_some, List, [], ◌∷◌, ◌++◌, length, Option, Some, None, option_and_then, if◌then◌else◌}
 use Rattle.std.specs.List.{list_any}
 use Rattle.std.specs.Option.{option_map}
-use Rattle.fork_text.specs.Field.{most_q}
+use Rattle.fork_rank.specs.Field.{most_q}
 use Rattle.sip_digest.specs.declared.algorithm.Algorithms.{Algorithms}
 use Rattle.sip_digest.specs.declared.algorithm.Algorithms.TheVariants as algorithms
 use Rattle.sip_uri.specs.Hop.{hop_of}

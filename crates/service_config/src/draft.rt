@@ -1,7 +1,7 @@
 //! Reading a configuration, a line after the other.
 ghost use Rattle.std.specs.Prelude.{◌≡◌, ◌≤◌, IfOk, Some, None, true, option_and_then, if◌then◌else◌};
 ghost use Rattle.sip_lex.specs.Cut.{Lacks, cut, is};
-ghost use Rattle.fork_text.specs.Field.{most_q};
+ghost use Rattle.fork_rank.specs.Field.{most_q};
 ghost use Rattle.proxy_config.specs.Line.{is_user};
 ghost use Rattle.proxy_config.specs.LineReading as setup_reading;
 ghost use Rattle.proxy_config.specs.Setup.{IsKept};

@@ -2,7 +2,7 @@
 ghost use Rattle.std.specs.Prelude.{◌≡◌, ◌≤◌, IfOk};
 ghost use Rattle.std.specs.List.{list_any};
 ghost use Rattle.std.specs.Option.{option_map};
-ghost use Rattle.fork_text.specs.Field.{most_q};
+ghost use Rattle.fork_rank.specs.Field.{most_q};
 ghost use Rattle.proxy_config.specs.Setup.{is_datagram};
 ghost use Rattle.sip_uri.specs.Hop.{hop_of};
 ghost use Rattle.service_config.specs.Net.{address_number};
@@ -23,7 +23,7 @@ pub struct Gateway<A: Allocator = Global> {
 
 impl<A: Allocator> Model for Gateway<A> {
     ghost use Rattle.std.specs.Prelude.{◌≤◌};
-    ghost use Rattle.fork_text.specs.Field.{most_q};
+    ghost use Rattle.fork_rank.specs.Field.{most_q};
     ghost use Rattle.service_config.specs.Settings as spec;
 
     ghost Value = { spec.Gateway };

@@ -4,7 +4,7 @@ ghost use Rattle.std.specs.List.{list_all};
 ghost use Rattle.std.specs.Option.{option_map};
 ghost use Rattle.sip_lex.specs.Cut.{Lacks, cut, is};
 ghost use Rattle.sip_lex.specs.Number.{plain_number_within};
-ghost use Rattle.fork_text.specs.Field.{number_before, number_from, seen_before};
+ghost use Rattle.fork_rank.specs.Field.{number_before, number_from, seen_before};
 ghost use Rattle.proxy_config.specs.LineView as setup_view;
 ghost use Rattle.service_config.specs.Kind.{kind_of, setup_kind};
 ghost use Rattle.service_config.specs.Line.{are_expirations, is_realm, is_realm_byte, most_expiration, most_ring, says_nothing};
@@ -14,7 +14,7 @@ ghost use Rattle.service_config.specs.inner.LineView.{line_of, reading_in, seen_
 use crate::expirations::Expirations;
 use crate::kind::LineKind;
 use crate::net::{Net, address_number, block};
-use fork_text::{read_small_number, read_small_number_before};
+use fork_rank::{read_small_number, read_small_number_before};
 use proxy_config::{SetupLine, read_octets};
 use sip_digest::Algorithms;
 use sip_lex::{cut_at, read_plain_number};

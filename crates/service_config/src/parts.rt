@@ -1,7 +1,7 @@
 //! Settings in the making.
 ghost use Rattle.std.specs.Prelude.{◌≡◌, ◌≤◌, ◌++◌, ◌∷◌, [], IfOk, Some, None, if◌then◌else◌};
 ghost use Rattle.std.specs.Option.{option_map};
-ghost use Rattle.fork_text.specs.Field.{most_q};
+ghost use Rattle.fork_rank.specs.Field.{most_q};
 ghost use Rattle.service_config.specs.Line.{HasParts};
 ghost use Rattle.service_config.specs.Settings.{algorithms_or_md5, gateway_added, longest_of, no_settings, with_gateway, with_line, with_location};
 ghost use Rattle.service_config.specs.inner.LineView.{line_of};

@@ -1,6 +1,6 @@
 //! What a malformed line of a service's configuration should be.
 use crate::holds::holds;
-use config_form::{ServiceForm, ServiceMalformed, service_form_at};
+use service_config::{ServiceForm, ServiceMalformed, service_form_at};
 use std::alloc::{AllocError, Global};
 
 /// Lines that are malformed, the last of which no line feed ends.

@@ -1,8 +1,8 @@
 //! The list of users that goes with a realm, and the line of a user.
 use crate::holds::{holds, holds_of};
-use realm_users::{UserLineFault, UsersFault, needs_users, user_line};
+use service_config::{UserLineFault, UsersFault, needs_users, user_line};
+use sip_digest::UserFault;
 use std::alloc::{AllocError, Global};
-use user_list::UserFault;
 
 #[test]
 fn a_realm_needs_users_and_users_a_realm(rt: HostRuntime) {

@@ -1,7 +1,7 @@
 //! The Call-ID of a datagram, and the group of calls that its call is of.
 use crate::holds::holds;
+use call_affinity::{call_id, group_of};
 use std::alloc::AllocError;
-use worker_jobs::{call_id, group_of};
 
 /// Datagrams, and the Call-ID that is found in each.
 const TEXTS: [(&[u8], Option<&[u8]>); 15] = [

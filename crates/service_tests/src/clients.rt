@@ -1,6 +1,6 @@
 //! What is to be done for a client of the control socket, without a socket.
 use crate::holds::holds;
-use fork_control::{Client, ClientAnswer, ClientTurn, ControlCommand, ControlRequest};
+use control_socket::{Client, ClientAnswer, ClientTurn, ControlCommand, ControlRequest};
 use std::alloc::Global;
 use std::test::Fail;
 

@@ -1,8 +1,8 @@
 //! A watch shows the time, and never an earlier one.
 use crate::holds::holds;
-use fork_clock::{Epoch, ThreadClock};
-use std::test::Fail;
+use call_table::{Epoch, ThreadClock};
 use std::thread;
+use std::test::Fail;
 use std::time::Duration;
 
 /// How many times the time is read.

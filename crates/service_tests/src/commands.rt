@@ -1,6 +1,6 @@
 //! The lines of the control socket.
 use crate::holds::holds;
-use fork_control::{ControlCommand, read_command};
+use control_socket::{ControlCommand, read_command};
 use std::test::Fail;
 
 const LINES: [(&str, ControlCommand); 24] = [

@@ -1,6 +1,6 @@
 //! A schedule gives each number that is due, once.
 use crate::holds::holds;
-use fork_clock::Schedule;
+use call_table::Schedule;
 use std::alloc::Global;
 use std::sync::Wait;
 use std::test::Fail;

@@ -1,6 +1,6 @@
 //! Jobs of a group of calls wait for the worker that is on it, and come in order.
 use crate::holds::holds;
-use call_groups::{CallGroup, MOST_WAITING, WaitingRoom, jobs_come_in_order};
+use call_affinity::{CallGroup, MOST_WAITING, WaitingRoom, jobs_come_in_order};
 
 /// What becomes of a job that a worker receives.
 #[derive(Clone, Copy, PartialEq, Eq)]

@@ -1,10 +1,10 @@
 //! Jobs reach a worker that sleeps, in order, and a full inbox hands them back.
 use crate::holds::holds;
 use call_table::{Inbox, MOST_JOBS};
+use serve_command::{JobReceiver, JobSender, Waker};
 use std::sync::Wait;
 use std::test::Fail;
 use std::thread::join;
-use worker_jobs::{JobReceiver, JobSender, Waker};
 
 /// What is given to a worker.
 #[derive(Drop)]

@@ -13,6 +13,7 @@ mod clock;
 mod commands;
 #[cfg(test)]
 mod control;
+mod counters;
 #[cfg(test)]
 mod deadlines;
 #[cfg(test)]
@@ -29,8 +30,6 @@ mod jobs;
 mod journal;
 #[cfg(test)]
 mod limits;
-#[cfg(test)]
-mod metrics;
 #[cfg(test)]
 mod parts;
 #[cfg(test)]

@@ -1,6 +1,6 @@
 //! Each source address has its own limit.
 use crate::holds::holds;
-use source_limit::{SourceLimits, no_address_exceeds_its_rate, no_run_exceeds_its_rate};
+use service_admission::{SourceLimits, no_address_exceeds_its_rate, no_run_exceeds_its_rate};
 
 const ALICE: [u8; 4] = [192, 0, 2, 1];
 

@@ -34,8 +34,8 @@ pub use Rattle.sip_via.proofs.laws.Tokens.{all_pass}
 pub use Rattle.sip_via.specs.Address.{address_text}
 pub use Rattle.sip_via.specs.BranchText.{branch_text}
 pub use Rattle.sip_via.specs.Edits.{line, line_if_any, place_of, replaced, with_headers}
-pub use Rattle.sip_via.specs.HexPair.{hex_text}
-pub use Rattle.sip_via.specs.Lines.{lines_among}
+pub use Rattle.sip_lex.specs.HexPair.{hex_text}
+pub use Rattle.sip_route.specs.Lines.{lines_among}
 pub use Rattle.sip_via.specs.OwnVia.{own_via}
 pub use Rattle.sip_via.specs.TopVia.{values_in, via_values}
 pub use Rattle.sip_via.specs.ViaParts.{or_empty}

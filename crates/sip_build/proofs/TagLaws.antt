@@ -1,6 +1,6 @@
 -- Two digits more of a tag.
 use Rattle.sip_build.proofs.Common.{◌≡◌, ℕ, ◌+◌, ◌*◌, List, [], ◌∷◌, ◌++◌, length, get_or, take, ap, arith, hex_text, common_steps}
-use Rattle.sip_via.specs.HexPair.{hex_pair}
+use Rattle.sip_lex.specs.HexPair.{hex_pair}
 
 pub tag_done : (front tag digest : List ℕ) (i : ℕ) → i ≡ 8 → length tag ≡ 18 → take (2 * i + 2) tag ≡ front ++ hex_text (take i digest) → tag ≡ front ++ hex_text (take 8 digest)
 tag_done front tag digest i end size so = grind (arith, common_steps)

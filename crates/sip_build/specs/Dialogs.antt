@@ -3,7 +3,7 @@ use Rattle.std.specs.Prelude.{ℕ, Bool, false, ◌&&◌, ◌||◌, List, is_non
 use Rattle.std.specs.Str.{bytes_eq}
 use Rattle.sip_text.specs.declared.needed.MandatoryHeader.TheVariants.{To}
 use Rattle.sip_text.specs.Fields.{value_of}
-use Rattle.sip_text.specs.Tag.{tag_in}
+use Rattle.sip_lex.specs.Tag.{tag_in}
 use Rattle.sip_text.specs.Text.{MessageText, StartText, Request, Response}
 
 -- INVITE (RFC 3261 section 12.1), SUBSCRIBE (RFC 6665 section 4.1) and REFER (RFC 3515 section 2.4.4)

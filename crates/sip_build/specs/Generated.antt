@@ -2,12 +2,12 @@
 use Rattle.std.specs.Prelude.{ℕ, Bool, false, List, [], ◌∷◌, ◌++◌, map, codes, is_none, if◌then◌else◌}
 use Rattle.sip_text.specs.declared.needed.MandatoryHeader.TheVariants.{To}
 use Rattle.sip_text.specs.Fields.{value_of}
-use Rattle.sip_text.specs.Tag.{tag_in}
+use Rattle.sip_lex.specs.Tag.{tag_in}
 use Rattle.sip_text.specs.Text.{HeaderText, MessageText, Response}
 use Rattle.sip_build.specs.declared.responses.OwnStatus.{OwnStatus}
 use Rattle.sip_build.specs.declared.responses.OwnStatus.TheVariants as own
 use Rattle.sip_via.specs.Edits.{line}
-use Rattle.sip_via.specs.Lines.{first_line, lines_as, lines_named}
+use Rattle.sip_route.specs.Lines.{first_line, lines_as, lines_named}
 use Rattle.sip_build.specs.OwnTag.{own_tag}
 
 abbrev pub code_of : OwnStatus → ℕ

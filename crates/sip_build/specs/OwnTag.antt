@@ -2,7 +2,7 @@
 use Rattle.std.specs.Prelude.{ℕ, List, [], ◌∷◌, ◌++◌, take, codes}
 use Rattle.md5.specs.Md5.{md5}
 use Rattle.sip_text.specs.Text.{MessageText}
-use Rattle.sip_via.specs.HexPair.{hex_text}
+use Rattle.sip_lex.specs.HexPair.{hex_text}
 use Rattle.sip_route.specs.Loop.{call_id, cseq_number, field_lines, from_tag}
 
 abbrev pub tag_fields : MessageText → List (List ℕ)

@@ -8,7 +8,7 @@ use Rattle.sip_uri.specs.Uri as uri
 use Rattle.sip_via.specs.declared.branch.BranchName.{BranchName}
 use Rattle.sip_via.specs.declared.own.Own.{Own}
 use Rattle.sip_via.specs.Edits.{line}
-use Rattle.sip_via.specs.Lines.{lines_as, lines_named}
+use Rattle.sip_route.specs.Lines.{lines_as, lines_named}
 use Rattle.sip_via.specs.OwnVia.{own_via}
 use Rattle.sip_route.specs.Loop.{call_id, cseq_number, request_uri}
 use Rattle.sip_via.specs.ViaParts.{or_empty}

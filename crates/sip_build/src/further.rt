@@ -8,8 +8,8 @@ ghost use Rattle.sip_build.specs.Further.{view_if_any};
 ghost use Rattle.sip_build.specs.Generated.{timestamp_lines};
 ghost use Rattle.sip_build.specs.Requests.{reason_lines};
 
+use sip_route::{first_header, headers_around};
 use sip_text::{HeaderLine, Message};
-use sip_via::{first_header, headers_around};
 use std::alloc::{AllocError, Allocator};
 
 /// The first Timestamp line of a request as it stands, which a 100 to the request takes (RFC 3261 section 8.2.6.1); `None` where it

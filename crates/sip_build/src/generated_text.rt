@@ -5,7 +5,7 @@ ghost use Rattle.std.specs.List.{list_all};
 ghost use Rattle.sip_text.specs.Message.{is_header};
 ghost use Rattle.sip_text.specs.Seen.{view_lines};
 ghost use Rattle.sip_text.specs.Text.{spelling};
-ghost use Rattle.sip_via.specs.Lines.{first_line};
+ghost use Rattle.sip_route.specs.Lines.{first_line};
 ghost use Rattle.sip_build.specs.Generated.{generated_of, gets_tag, tagged, to_lines, unsupported_lines};
 ghost use Rattle.sip_build.specs.inner.HeaderRuns.{all_lines, lines_of};
 ghost use Rattle.sip_build.specs.OwnTag.{own_tag};
@@ -14,8 +14,8 @@ use crate::made_text::{Front, append_made};
 use crate::responses::{OwnStatus, has_tag_added};
 use crate::runs::{HeaderRun, Pick};
 use crate::tag::own_tag;
+use sip_route::first_header;
 use sip_text::{HeaderLine, Message};
-use sip_via::first_header;
 use std::alloc::{AllocError, Allocator};
 
 /// The first header line of that name as it stands.

@@ -24,9 +24,10 @@ use crate::runs::{HeaderRun, Pick};
 use crate::to_target::append_to_target;
 use itoa::Buffer;
 use sip_lex::cut_at_space;
+use sip_route::first_value;
 use sip_text::{HeaderLine, HeaderLines, Message};
 use sip_uri::SipUri;
-use sip_via::{BranchName, Own, first_value};
+use sip_via::{BranchName, Own};
 use std::alloc::{AllocError, Allocator};
 
 /// Shows that the numbers of the proxy's address are bounded.

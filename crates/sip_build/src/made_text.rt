@@ -6,9 +6,8 @@ ghost use Rattle.sip_text.specs.Text.{saturated, spelling, start_line};
 ghost use Rattle.sip_build.specs.inner.HeaderRuns.{IsFront, made_of, start_of, tail_text};
 
 use crate::runs::{HeaderRun, append_tail, tail_len};
-use sip_text::{
-    append_request_line, append_status_line, request_line_len, status_line_len, whole_or_nothing,
-};
+use sip_lex::whole_or_nothing;
+use sip_text::{append_request_line, append_status_line, request_line_len, status_line_len};
 use std::alloc::{AllocError, Allocator};
 
 /// The start line of a message that is written.

@@ -2,14 +2,14 @@
 
 ghost use Rattle.std.specs.Prelude.{◌≡◌, ◌≤◌, ◌++◌, length, take, codes};
 ghost use Rattle.md5.specs.Md5.{md5};
-ghost use Rattle.sip_via.specs.HexPair.{hex_text};
+ghost use Rattle.sip_lex.specs.HexPair.{hex_text};
 ghost use Rattle.sip_route.specs.Loop.{field_lines};
 ghost use Rattle.sip_build.specs.OwnTag.{own_tag, tag_fields};
 
 use md5::{Digest, Md5};
+use sip_lex::hex_pair;
 use sip_route::{add_field, add_number, add_optional};
 use sip_text::Message;
-use sip_via::hex_pair;
 use std::alloc::Allocator;
 
 fn tag_digest<A: Allocator>(message: &Message<A>) -> [u8; 16]

@@ -1,4 +1,3 @@
-pub mod inner
 pub mod Algorithm
 pub mod AuthParam
 pub mod Challenge
@@ -8,3 +7,8 @@ pub mod Right
 pub mod Secrets
 pub mod SeenCredentials
 pub mod Stamp
+pub mod User
+pub mod UserIndex
+pub mod UserView
+pub mod Users
+pub mod inner

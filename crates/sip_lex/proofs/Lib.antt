@@ -1,5 +1,7 @@
-pub mod Common
-pub mod laws
 pub mod Bare
+pub mod Common
 pub mod Numbers
 pub mod Places
+pub mod Size
+pub mod Tags
+pub mod laws

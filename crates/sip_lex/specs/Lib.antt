@@ -1,12 +1,15 @@
-pub mod inner
 pub mod Bytes
 pub mod Cut
 pub mod Hex
+pub mod HexPair
 pub mod Line
 pub mod Number
 pub mod Outside
+pub mod Params
 pub mod Pieces
 pub mod Quoted
 pub mod Sheltered
-pub mod Params
+pub mod Short
+pub mod Tag
 pub mod Values
+pub mod inner

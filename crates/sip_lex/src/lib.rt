@@ -8,18 +8,26 @@
 
 mod bytes;
 mod cut;
+mod growing;
+mod growth;
 mod hex;
+mod hex_pairs;
 mod line;
 mod number;
 mod quoted;
 mod sheltered;
 mod space;
+mod tag;
 
 pub use bytes::{are_digits, is_space, is_token, lowered};
 pub use cut::{cut_at, cut_at_space, cut_near};
+pub use growing::{Growing, Short};
+pub use growth::whole_or_nothing;
 pub use hex::{hex_digit, hex_value};
+pub use hex_pairs::{hex_pair, read_pair};
 pub use line::first_line;
 pub use number::{append_decimal, read_number, read_plain_number};
 pub use quoted::cut_quoted;
 pub use sheltered::{Shelter, cut_outside, is_closed};
 pub use space::{trim, trim_end, trim_start};
+pub use tag::tag_of;

@@ -7,7 +7,7 @@ use Rattle.md5.specs.Md5.{md5}
 use Rattle.sip_text.specs.declared.needed.MandatoryHeader.TheVariants.{CallId, From, To}
 use Rattle.sip_text.specs.Fields.{CSeqText, message_cseq, value_of}
 use Rattle.sip_text.specs.Name.{values_of}
-use Rattle.sip_text.specs.Tag.{tag_in}
+use Rattle.sip_lex.specs.Tag.{tag_in}
 use Rattle.sip_text.specs.Text.{MessageText, StartText, Request, Response}
 use Rattle.sip_via.specs.ViaParts.{or_empty}
 

@@ -4,6 +4,7 @@
 #![tactic(auto)]
 
 mod fields;
+mod header_values;
 mod hops;
 mod law;
 mod loop_test;
@@ -14,6 +15,7 @@ mod routes;
 mod stripping;
 
 pub use fields::{add_field, add_number, add_optional};
+pub use header_values::{first_header, first_value, headers_around};
 pub use hops::{MaxForwards, max_forwards};
 pub use law::{keys_tell_senders, stripping_keeps_the_rest};
 pub use loop_test::is_loop;

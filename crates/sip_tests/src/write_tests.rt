@@ -6,7 +6,7 @@ use crate::holds::holds;
 use crate::messages::{OWN, REQUEST, ROUTED, is_written_so, may_pass, message_of};
 use crate::rows::holds_in_row;
 use sip_build::{write_forwarded, write_forwarded_ack, write_forwarded_cancel};
-use sip_message::forward;
+use sip_builders::forward;
 use sip_text::{Message, StartLine};
 use sip_uri::SipUri;
 use sip_via::BranchName;

@@ -30,7 +30,7 @@ pub use Rattle.sip_text.specs.Reading.{with_line}
 pub use Rattle.sip_text.specs.Change.{valued_at, with_part_at, with_value_at, without_line_at}
 pub use Rattle.sip_text.specs.Seen.{header_in, headers_in, part_at, start_in, view_line, view_lines, view_start, views}
 pub use Rattle.sip_text.specs.StartFaults.{HasStartFault}
-pub use Rattle.sip_text.specs.Tag.{tag_of_params}
+pub use Rattle.sip_lex.specs.Tag.{tag_of_params}
 pub use Rattle.sip_text.specs.Text.{HeaderText, MessageText, Request, Response, StartText, header_text, pieces_text, saturated, start_line, status_text}
 pub use Rattle.sip_text.specs.declared.fields.BodyLength.{BodyLength}
 pub use Rattle.sip_text.specs.declared.fields.BodyLength.TheVariants.{Bytes, Unsaid, Wrong}

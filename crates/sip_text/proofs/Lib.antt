@@ -1,7 +1,5 @@
 pub mod Common
-pub mod laws
 pub mod Ends
-pub mod NeededFields
 pub mod Gaps
 pub mod Groups
 pub mod Grown
@@ -9,10 +7,10 @@ pub mod HeaderPlaces
 pub mod HeaderValues
 pub mod Heads
 pub mod Joins
+pub mod NeededFields
+pub mod Places
 pub mod Public
 pub mod Refusals
-pub mod Size
-pub mod Places
 pub mod Spelled
 pub mod StartAgain
 pub mod StartFaults
@@ -20,5 +18,5 @@ pub mod StartLines
 pub mod Steps
 pub mod Tails
 pub mod TextLines
-pub mod Tags
 pub mod Zeroed
+pub mod laws

@@ -9,8 +9,8 @@ use crate::needed::MandatoryHeader;
 use crate::parts::{CSeqLine, StartLine};
 use crate::place::{LinePlaces, PartPlace, StartPlaces, part_at, start_in};
 use crate::read::read_all;
-use crate::tag::tag_of;
 use crate::write::append_message;
+use sip_lex::tag_of;
 use std::alloc::{AllocError, Allocator};
 use std::marker::Model;
 
@@ -47,7 +47,7 @@ impl<A: Allocator> Message<A> {
     ghost use Rattle.sip_text.specs.Method.{is_invite, known_method, stands_alone};
     ghost use Rattle.sip_text.specs.Name.{values_of};
     ghost use Rattle.sip_text.specs.Seen.{view_cseq, view_start, views};
-    ghost use Rattle.sip_text.specs.Tag.{tag_in};
+    ghost use Rattle.sip_lex.specs.Tag.{tag_in};
     ghost use Rattle.sip_text.specs.Text.{method_in, spelling, status_in};
 
     /// The message whose parts stand at such places of a text.

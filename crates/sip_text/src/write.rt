@@ -7,9 +7,9 @@ ghost use Rattle.sip_text.specs.Message.{is_start};
 ghost use Rattle.sip_text.specs.Text.{Request, Response, header_text, pieces_text, saturated, spelling, start_line, status_text};
 ghost use Rattle.sip_text.specs.Seen.{view_start, views};
 
-use crate::growth::whole_or_nothing;
 use crate::header_lines::HeaderLines;
 use crate::parts::StartLine;
+use sip_lex::whole_or_nothing;
 use std::alloc::{AllocError, Allocator};
 
 fn append_each<B: Allocator>(out: &mut Vec<u8, B>, pieces: &[&[u8]]) -> Result<(), AllocError>

@@ -41,8 +41,7 @@ pub use Rattle.sip_uri.specs.declared.hop.Hop.{Hop}
 pub use Rattle.sip_via.specs.Address.{IsAddress, address_text, dotted}
 pub use Rattle.sip_via.specs.BranchText.{IsBranch, branch_text, cookie}
 pub use Rattle.sip_via.specs.Edits.{begins_named, changed_first, line, line_if_any, place_of, replaced, with_headers}
-pub use Rattle.sip_via.specs.HexPair.{hex_pair, hex_text}
-pub use Rattle.sip_via.specs.Lines.{lines_among}
+pub use Rattle.sip_lex.specs.HexPair.{hex_pair, hex_text}
 pub use Rattle.sip_via.specs.OwnVia.{IsOwn, own_via}
 pub use Rattle.sip_via.specs.Received.{IsSource, asks_port, filled, first_via_line, gets_received, marked_line, marked_param, marked_parts, marked_value, received_text, with_via_line}
 pub use Rattle.sip_via.specs.TopVia.{values_in}

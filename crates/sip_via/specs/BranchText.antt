@@ -4,7 +4,7 @@ use Rattle.std.specs.Prelude.{◌≡◌, ◌<◌, ◌^◌, ℕ, List, ◌∷◌,
 use Rattle.std.specs.Fmt.{decimal}
 use Rattle.std.specs.List.{AllByRecursion}
 use Rattle.sip_via.specs.declared.branch.BranchName.{BranchName}
-use Rattle.sip_via.specs.HexPair.{hex_text}
+use Rattle.sip_lex.specs.HexPair.{hex_text}
 
 abbrev pub cookie : List ℕ
 cookie = codes "z9hG4bK"

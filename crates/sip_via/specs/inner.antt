@@ -3,4 +3,3 @@ pub mod CutLines
 pub mod Fronts
 pub mod SeenParts
 pub mod SentParts
-pub mod Short

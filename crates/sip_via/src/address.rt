@@ -7,8 +7,8 @@ ghost use Rattle.std.specs.Str.{bytes_eq};
 ghost use Rattle.sip_via.specs.Address.{address_text, dotted};
 ghost use Rattle.sip_via.specs.inner.Fronts.{behind_address, behind_marked, behind_number, is_end};
 
-use crate::growing::Growing;
 use itoa::Buffer;
+use sip_lex::Growing;
 use std::alloc::AllocError;
 
 /// Adds a number in decimal.

@@ -8,11 +8,10 @@ ghost use Rattle.sip_lex.specs.Cut.{cut, is};
 ghost use Rattle.sip_via.specs.inner.BranchParts.{branch_parts, parts_of, seen_parts, view_parts, with_instance, with_key};
 ghost use Rattle.sip_via.specs.declared.branch.BranchName.{BranchName};
 ghost use Rattle.sip_via.specs.BranchText.{IsBranch, branch_text};
-ghost use Rattle.sip_via.specs.HexPair.{hex_text};
+ghost use Rattle.sip_lex.specs.HexPair.{hex_text};
 
-use crate::hex::{hex_pair, read_pair};
 use itoa::write_digits;
-use sip_lex::{cut_at, read_plain_number};
+use sip_lex::{cut_at, hex_pair, read_pair, read_plain_number};
 use std::alloc::{AllocError, Allocator};
 
 /// What a branch parameter of the proxy's own says: which target of which context was tried, by

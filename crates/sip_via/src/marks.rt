@@ -13,9 +13,8 @@ ghost use Rattle.sip_via.specs.ViaParts.{is_named, is_via, params_of, parts_of};
 
 use crate::address::{add_address, add_number, is_address};
 use crate::cut::ViaParts;
-use crate::growing::Growing;
 use crate::params::Params;
-use sip_lex::{cut_near, trim, trim_end};
+use sip_lex::{Growing, cut_near, trim, trim_end};
 use sip_uri::Hop;
 use std::alloc::AllocError;
 

@@ -5,7 +5,6 @@ use Rattle.std.specs.contracts.alloc.Global.{the_row as heap_row}
 use Rattle.std.specs.contracts.impls.GlobalAllocator.TheImpl.{ghosts}
 use Rattle.call_branch.specs.contracts.opened.OpenedRequest.{the_row as fixed_row}
 use Rattle.call_branch.specs.contracts.branch.Branch.{the_row as branch_row}
-use Rattle.call_branch.specs.contracts.served.ServerTransaction.{the_row as served_row}
 use Rattle.call_branch.specs.contracts.destination.Destination.{the_row as destination_row}
 
 pub fixed_send : IsSend (fixed_row heap_row ghosts)
@@ -13,9 +12,6 @@ fixed_send = search (crosses, sendable) depth 60 fits 20000
 
 pub branch_send : IsSend (branch_row heap_row ghosts)
 branch_send = search (crosses, sendable) depth 60 fits 20000
-
-pub served_send : IsSend served_row
-served_send = search (crosses, sendable) depth 60 fits 20000
 
 pub destination_send : IsSend (destination_row heap_row ghosts)
 destination_send = search (crosses, sendable) depth 60 fits 20000

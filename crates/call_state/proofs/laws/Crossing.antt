@@ -6,8 +6,9 @@ use Rattle.std.specs.declared.clone.Clone as clone
 use Rattle.std.specs.contracts.alloc.Global.{the_row as heap_row}
 use Rattle.std.specs.contracts.impls.GlobalAllocator.TheImpl.{ghosts}
 use Rattle.fork_book.proofs.laws.Crossing.{book_send}
-use Rattle.call_branch.proofs.laws.Crossing.{fixed_send, branch_send, served_send, destination_send}
-use Rattle.call_answers.proofs.laws.Crossing.{queue_send}
+use Rattle.call_branch.proofs.laws.Crossing.{fixed_send, branch_send, destination_send}
+use Rattle.call_caller.proofs.laws.Crossing.{served_send}
+use Rattle.call_caller.proofs.laws.Crossing.{queue_send}
 use Rattle.call_state.specs.contracts.state.CallState.{the_row as parts_row}
 
 pub parts_send : (h : clone.Ghosts heap_row.Denot) → IsSend (parts_row heap_row ghosts h)

@@ -1,8 +1,7 @@
 //! Histories of a call: what comes to it moment by moment, and what it does then.
 use crate::requests::{SOURCE, read_message, setup_of};
 use call_messages::{Sent, is_sent};
-use call_routing::is_openable;
-use fork_call::{Call, Cause, Setup, Step, TakeFault, Taken};
+use fork_call::{Call, Cause, Setup, Step, TakeFault, Taken, is_openable};
 use fork_context::{Event, Reply, Up};
 use sip_uri::Hop;
 use std::alloc::{AllocError, Global};

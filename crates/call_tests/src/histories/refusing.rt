@@ -1,8 +1,7 @@
 //! Requests that open no call, and the status with which each is answered (RFC 3261 sections 16.3 to 16.6).
 use crate::holds::holds;
 use crate::requests::{Change, SETUP, SOURCE, request_with, setup_of};
-use call_routing::is_openable;
-use fork_call::{Call, RequestRejection, Setup};
+use fork_call::{Call, RequestRejection, Setup, is_openable};
 use std::alloc::Global;
 
 /// The fault with which the request with this change opens no call by a setup.

@@ -3,7 +3,7 @@
 use Rattle.std.specs.Prelude.{ℕ, List, ◌++◌}
 use Rattle.std.specs.List.{flat_map}
 use Rattle.fork_model.specs.Table.{Rules}
-use Rattle.fork_text.specs.RuleLines.{ended}
+use Rattle.fork_rank.specs.RuleLines.{ended}
 use Rattle.fork_listing.specs.declared.line.Version.TheVariants.{Third}
 use Rattle.fork_listing.specs.declared.line.ListedTarget.{ListedTarget}
 use Rattle.fork_listing.specs.declared.line.Ranked.{Ranked}

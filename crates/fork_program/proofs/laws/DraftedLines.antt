@@ -4,9 +4,9 @@ use Rattle.fork_program.proofs.Common.{most_targets, FinalAnswer, Event, Answer,
 use Rattle.fork_program.proofs.Common.{Draft, no_draft, with_contact, with_challenge, last_changed, drafted_line, has_kind, Detail, ContactDetail, OtherDetail, ChallengeDetail, Told, Spelling, prefer_lines, depth_lines, target_line, detail_line}
 use Rattle.fork_program.proofs.Common.{told_lines, lines_of, MayStandBehind, IsSpelling, preferred_said, depth_said, offers_said, challenges_said, event_said, script_of, common_steps, arith, rules}
 use Rattle.fork_model.specs.Table.{Rules}
-use Rattle.fork_text.specs.LineByLine as texts
-use Rattle.fork_text.specs.RuleLines.{usual_rules}
-use Rattle.fork_text.proofs.laws.Lines.{all_append, all_front, drafted_append}
+use Rattle.fork_rank.specs.LineByLine as texts
+use Rattle.fork_rank.specs.RuleLines.{usual_rules}
+use Rattle.fork_rank.proofs.laws.Lines.{all_append, all_front, drafted_append}
 use Rattle.fork_program.specs.declared.script.ScriptPhase.{ScriptPhase}
 use Rattle.fork_program.specs.declared.script.ScriptPhase.TheVariants.{AtKind, AtPrefer, AtDepth, AtTargets, AtEvents, AtAnswer}
 use Rattle.fork_program.specs.Script.{no_script, phase_behind, phase_after, with_line}

@@ -5,11 +5,11 @@ use Rattle.std.proofs.lemmas.Slice.Eq.{bytes_eq-Decides}
 use Rattle.sip_lex.specs.Cut.{behind}
 use Rattle.sip_lex.proofs.laws.Cuts.{cut_joins}
 use Rattle.std.proofs.lemmas.Option.{cond_some}
-use Rattle.fork_text.proofs.laws.Field.{found_map, number_before_found, number_from_found}
+use Rattle.fork_rank.proofs.laws.Field.{found_map, number_before_found, number_from_found}
 use Rattle.fork_program.specs.declared.line.ScriptWord.{ScriptWord}
 use Rattle.fork_program.specs.declared.line.ScriptWord.TheVariants as word
-use Rattle.fork_text.specs.Preferred.{read_preferred}
-use Rattle.fork_text.specs.Field.{number_before, number_from}
+use Rattle.fork_rank.specs.PreferredText.{read_preferred}
+use Rattle.fork_rank.specs.Field.{number_before, number_from}
 use Rattle.fork_program.specs.Reading.{word_of, read_kind, read_asker, read_challenge, read_rest, read_alone, read_worded, read_cut}
 use Rattle.sip_lex.proofs.laws.Numbers.{number_spelled}
 

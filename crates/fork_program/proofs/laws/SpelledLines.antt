@@ -7,8 +7,8 @@ use Rattle.std.specs.List.{list_all}
 use Rattle.std.proofs.lemmas.Bool.{eqb-false, and_parts}
 use Rattle.sip_lex.specs.Cut.{Lacks}
 use Rattle.sip_lex.proofs.laws.Cuts.{Lacks-append, Lacks-pass}
-use Rattle.fork_text.proofs.laws.Field.{number_before_read, number_from_read}
-use Rattle.fork_text.proofs.laws.Preferred.{preferred_read, list_lacks}
+use Rattle.fork_rank.proofs.laws.Field.{number_before_read, number_from_read}
+use Rattle.fork_rank.proofs.laws.Preferred.{preferred_read, list_lacks}
 use Rattle.fork_program.specs.Line.{event_text, is_visible, is_printable}
 use Rattle.sip_lex.proofs.laws.Numbers.{number_read, decimal_lacks}
 use Rattle.fork_program.proofs.laws.LineLaws.{line_found}

@@ -4,7 +4,7 @@
 use Rattle.std.specs.Prelude.{◌≡◌, ℕ, List, ◌++◌}
 use Rattle.fork_model.specs.Event.{Event}
 use Rattle.fork_model.specs.Core.{Core, Outcome, core_offered, core_after, IsOutcome, AreOutcomes}
-use Rattle.fork_text.specs.RuleLines.{ended}
+use Rattle.fork_rank.specs.RuleLines.{ended}
 use Rattle.fork_program.specs.Replay.{outcome_text, outcomes_text}
 
 -- one event was offered, and the text has grown by its line

@@ -1,5 +1,5 @@
 use Rattle.std.proofs.Common.{List, ℕ, refl, ◌≡◌, subst, sym, ap, ◌∙◌}
-use Rattle.proxy_server.specs.Faults.{Spells, IsFaultOf}
+use Rattle.serve_command.specs.Faults.{Spells, IsFaultOf}
 use Rattle.fork_proxy.specs.Ending.{IsServeFailure, told}
 use Rattle.fork_proxy.proofs.FaultsTold.{is_told}
 use Rattle.fork_proxy.proofs.served.Goals as goal

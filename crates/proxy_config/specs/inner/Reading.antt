@@ -3,8 +3,8 @@ use Rattle.std.specs.Prelude.{◌≡◌, ◌&&◌, ℕ, Bool, true, false, List,
 use Rattle.std.specs.Option.{option_map}
 use Rattle.std.specs.List.{slice_split}
 use Rattle.sip_lex.specs.Cut.{is}
-use Rattle.fork_text.specs.LineByLine.{lines_from}
-use Rattle.fork_text.specs.Pieces.{is_empty}
+use Rattle.fork_rank.specs.LineByLine.{lines_from}
+use Rattle.fork_rank.specs.Pieces.{is_empty}
 use Rattle.proxy_config.specs.declared.draft.SetupPhase.{SetupPhase}
 use Rattle.proxy_config.specs.declared.draft.SetupPhase.TheVariants.{AtOwn, AtInstance, AtDomain, AtPrefer, AtDepth, AtLocations}
 use Rattle.proxy_config.specs.Line.{Line, OwnLine, InstanceLine, DomainLine, PreferLine, DepthLine, LocationLine}

@@ -1,4 +1,7 @@
--- Threads may share a service.
+-- Threads may share the counters, the marks and the socket of a proxy, and what a lock holds of its places.
+use denote.Param.Send.{IsSync}
+use Rattle.proxy_service.proofs.marks.Marks.TheSendSync as made_marks
+use Rattle.proxy_service.specs.contracts.marks.Marks as marks
 use denote.Struct.Declared.{shape}
 use denote.Param.Send.{IsSend, IsSync, sendable, struct_sync}
 use Rattle.std.proofs.Crossing.{crosses, frees, send, sync}
@@ -11,20 +14,22 @@ use Rattle.fork_call.proofs.laws.Crossing.{call_send}
 use Rattle.fork_call.specs.contracts.call.Call.{the_row as call_row}
 use Rattle.call_table.proofs.laws.Crossing.{shelf_sync}
 use Rattle.call_table.specs.contracts.shelf.Shelf as shelf
-use Rattle.daemon_parts.proofs.laws.Crossing.{counts_sync, marks_sync}
-use Rattle.daemon_parts.proofs.places.CallQuota.TheSendSync as places
-use Rattle.fork_clock.proofs.laws.Crossing.{schedule_sync}
+use Rattle.metrics.proofs.laws.Crossing.{counts_sync}
+use Rattle.proxy_service.proofs.laws.Crossing.{marks_sync}
+use Rattle.call_table.proofs.laws.Crossing.{schedule_sync}
 use Rattle.proxy_config.proofs.laws.Crossing as setup
 use Rattle.proxy_config.specs.contracts.setup.Setup.{the_row as setup_row}
 use Rattle.proxy_service.proofs.terms.RunSettings.TheSendSync as terms
-use Rattle.proxy_service.proofs.lifetime.Lifetime.TheSendSync as lifetime
+use Rattle.service_admission.proofs.lifetime.Lifetime.TheSendSync as lifetime
 use Rattle.proxy_service.proofs.notes.NoteTables.TheSendSync as notes
-use Rattle.proxy_service.proofs.queue.JournalQueue.TheSendSync as queue
+use Rattle.service_files.proofs.queue.JournalQueue.TheSendSync as queue
 use Rattle.proxy_service.proofs.refusals.Refusals.TheSendSync as refusals
 use Rattle.proxy_service.proofs.walk.Walk.TheSendSync as walk
 use Rattle.proxy_service.specs.contracts.calls.ServiceCalls as calls
-use Rattle.proxy_service.specs.contracts.quota.Quota as quota
 use Rattle.proxy_service.specs.contracts.service.Service as service
+
+pub marks_sync : IsSync marks.the_field.row
+marks_sync = made_marks.the_field_sync
 
 shelf_shared : (h : clone.Ghosts heap_row.Denot) → IsSync (shelf.the_field (call_row heap_row ghosts h) heap_row ghosts).row
 shelf_shared h = shelf_sync (call_row heap_row ghosts h) heap_row ghosts (call_send h) send sync frees
@@ -34,9 +39,6 @@ setup_shared = setup.setup_sync heap_row ghosts sync
 
 setup_sent : IsSend (setup_row heap_row ghosts)
 setup_sent = setup.setup_send heap_row ghosts send frees
-
-quota_sync : IsSync quota.the_field.row
-quota_sync = struct_sync (shape quota.the_type) (search (crosses, places.the_send), (search (crosses, sendable), (search (crosses, sendable), tt)))
 
 calls_sync : (h : clone.Ghosts heap_row.Denot) → IsSync (calls.the_field heap_row ghosts h).row
 calls_sync h = struct_sync (shape (calls.the_type heap_row ghosts h)) (

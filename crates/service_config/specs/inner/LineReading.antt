@@ -4,7 +4,7 @@ use Rattle.std.specs.List.{list_all}
 use Rattle.std.specs.Option.{option_map}
 use Rattle.sip_lex.specs.Cut.{cut, is}
 use Rattle.sip_lex.specs.Number.{plain_number_within}
-use Rattle.fork_text.specs.Field.{most_q, number_before, number_from}
+use Rattle.fork_rank.specs.Field.{most_q, number_before, number_from}
 use Rattle.sip_digest.specs.Algorithm.{algorithms_named}
 use Rattle.proxy_config.specs.Line as setup
 use Rattle.proxy_config.specs.LineReading as setup_line

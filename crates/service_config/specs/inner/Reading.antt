@@ -2,8 +2,8 @@
 use Rattle.std.specs.Prelude.{◌≡◌, ◌≤◌, ◌&&◌, ℕ, true, is_some, List, Option, Some, None, Result, Ok, Err, option_and_then, if◌then◌else◌}
 use Rattle.std.specs.List.{slice_split}
 use Rattle.sip_lex.specs.Cut.{is}
-use Rattle.fork_text.specs.LineByLine.{lines_from}
-use Rattle.fork_text.specs.Pieces.{is_empty}
+use Rattle.fork_rank.specs.LineByLine.{lines_from}
+use Rattle.fork_rank.specs.Pieces.{is_empty}
 use Rattle.sip_uri.specs.Host.{is_host}
 use Rattle.proxy_config.specs.Setup.{KeepsRules}
 use Rattle.service_config.specs.Configuration.{Draft, no_draft, with_draft}

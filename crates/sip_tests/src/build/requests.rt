@@ -3,7 +3,7 @@ use crate::behind::if_built;
 use crate::build::forwarding::{VIA_LINE, invite_sent};
 use crate::holds::holds;
 use crate::messages::{REQUEST, is_read_back, is_written_as, is_written_as_read, message_of};
-use sip_message::{ack_is_message, ack_of, cancel_is_message, cancel_of};
+use sip_builders::{ack_is_message, ack_of, cancel_is_message, cancel_of};
 use sip_text::{Message, StartLine};
 use std::alloc::Global;
 

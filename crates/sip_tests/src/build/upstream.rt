@@ -8,7 +8,7 @@ use crate::holds::holds;
 use crate::messages::{is_written_as, message_of};
 use fork_rank::Challenge;
 use sip_build::challenge_name;
-use sip_message::upward;
+use sip_builders::upward;
 use sip_text::Message;
 use sip_via::BuildFault;
 use std::alloc::Global;

@@ -1,7 +1,8 @@
 //! Addresses told from other texts, and the digits of a byte.
 use crate::holds::holds;
 use crate::rows::holds_in_row;
-use sip_via::{hex_pair, is_address};
+use sip_lex::hex_pair;
+use sip_via::is_address;
 
 /// Texts, and whether each is the address 192.0.2.9.
 const ADDRESSES: [(&[u8], bool); 6] = [

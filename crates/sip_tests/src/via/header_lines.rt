@@ -2,8 +2,8 @@
 use crate::bytes::is;
 use crate::holds::holds;
 use crate::messages::request_with_via;
+use sip_route::{first_header, first_value};
 use sip_text::Message;
-use sip_via::{first_header, first_value};
 use std::alloc::Global;
 
 const TWO_SUBJECTS: &[u8] = b"Via: SIP/2.0/UDP h\r\nSubject: a\r\nsubject: b";

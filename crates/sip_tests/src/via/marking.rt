@@ -3,7 +3,7 @@ use crate::bytes::{has, is};
 use crate::holds::holds;
 use crate::messages::{REQUEST, SOURCE, is_written_as, message_of, request_with_via};
 use crate::rows::holds_in_row;
-use sip_message::mark_received;
+use sip_builders::mark_received;
 use sip_text::Message;
 use sip_via::{ViaFault, top_via};
 use std::alloc::Global;

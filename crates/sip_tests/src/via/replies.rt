@@ -2,7 +2,7 @@
 use crate::holds::holds;
 use crate::messages::{SOURCE, request_with_via};
 use crate::rows::holds_in_row;
-use sip_message::reply_hop;
+use sip_builders::reply_hop;
 use sip_uri::{Hop, Transport};
 use sip_via::{Via, reply_hop_of};
 use std::alloc::Global;

@@ -1,7 +1,7 @@
 //! Requests whose first Route value is the proxy's own, and others.
 use crate::holds::holds;
 use crate::messages::{OWN, REQUEST, is_written_as, message_of};
-use sip_message::strip_route;
+use sip_builders::strip_route;
 use sip_route::leads_to_proxy;
 use sip_text::Message;
 use std::alloc::Global;

@@ -3,7 +3,7 @@ use crate::bytes::is;
 use crate::holds::holds;
 use crate::messages::SOURCE;
 use crate::rows::holds_in_row;
-use sip_message::reply_hop;
+use sip_builders::reply_hop;
 use sip_uri::Hop;
 use sip_via::{Via, ViaFault};
 use std::alloc::Global;

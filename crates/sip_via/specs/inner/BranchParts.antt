@@ -4,7 +4,7 @@ use Rattle.std.specs.Fmt.{decimal}
 use Rattle.sip_lex.specs.Cut.{cut, is}
 use Rattle.sip_via.specs.declared.branch.SplitBranch.{SplitBranch}
 use Rattle.sip_via.specs.declared.branch.BranchName.{BranchName}
-use Rattle.sip_via.specs.HexPair.{hex_text}
+use Rattle.sip_lex.specs.HexPair.{hex_text}
 
 pub record BranchParts : Type 0 where
   pub key : List ℕ

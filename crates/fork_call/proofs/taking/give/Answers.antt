@@ -1,6 +1,6 @@
 use Rattle.fork_call.proofs.Common.{subst, sym, TakesAs, seen_recipient}
 use Rattle.call_model.specs.Take.{Absorbed}
-use Rattle.call_routing.specs.declared.transaction.MatchedTransaction.{MatchedTransaction}
+use Rattle.call_state.specs.declared.transaction.MatchedTransaction.{MatchedTransaction}
 use Rattle.fork_call.proofs.taking.give.Goals as goal
 
 pub returns-clause-step : goal.returns-clause-step

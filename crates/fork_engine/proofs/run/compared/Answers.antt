@@ -1,6 +1,6 @@
 use Rattle.std.proofs.Common.{sym, subst, inl, inr}
 use Rattle.fork_rank.specs.KindView.{kind_of}
-use Rattle.interleaving.specs.Interleaving.{IsInterleaving}
+use Rattle.fork_engine.specs.Interleaving.{IsInterleaving}
 use Rattle.fork_engine.proofs.run.compared.Goals as goal
 use Rattle.fork_engine.proofs.run.compared.Goals.{else-ours-via-then-ours+else-mixed, else-ours-via-else-ours}
 

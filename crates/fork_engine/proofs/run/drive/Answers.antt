@@ -2,9 +2,9 @@ use Rattle.std.proofs.Common.{◌≡◌, ◌∙◌, subst, map, IfOk, IfErr}
 use Rattle.fork_model.specs.History.{opening}
 use Rattle.fork_rank.specs.KindView.{kind_of}
 use Rattle.context_values.specs.EventView.{event_of}
-use Rattle.interleaving.specs.Interleaving.{IsInterleaving}
+use Rattle.fork_engine.specs.Interleaving.{IsInterleaving}
 use Rattle.fork_engine.specs.Faults.{IsTrueFault}
-use Rattle.interleaving.specs.Plain.{EndsWithLeast}
+use Rattle.fork_engine.specs.Plain.{EndsWithLeast}
 use Rattle.fork_engine.proofs.Faulty.{no_new}
 use Rattle.fork_engine.proofs.Ends.{ends_with_least, both_ok}
 use Rattle.fork_engine.proofs.run.drive.Goals as goal

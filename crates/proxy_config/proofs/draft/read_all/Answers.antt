@@ -1,5 +1,5 @@
 use Rattle.proxy_config.proofs.Common.{◌<◌, ℕ, Result, length, subst, arith, Setup, drafted, finished_draft, GivesSetup}
-use Rattle.fork_text.proofs.laws.Lines.{if_added, if_not_added, at_last_line, at_wrong_line, behind_line}
+use Rattle.fork_rank.proofs.laws.Lines.{if_added, if_not_added, at_last_line, at_wrong_line, behind_line}
 use Rattle.proxy_config.specs.inner.Reading.{read_setup}
 use Rattle.proxy_config.proofs.DraftedLines.{drafted_next, drafted_sound}
 use Rattle.proxy_config.proofs.draft.read_all.Goals as goal

@@ -1,6 +1,6 @@
 use Rattle.proxy_dispatch.proofs.Common.{IfOk-weaker, seen_sent}
 use Rattle.proxy_dispatch.proofs.Becoming.{passes_if, stopped}
-use Rattle.call_routing.proofs.laws.Readable.{admitted_reads}
+use Rattle.fork_call.proofs.laws.Readable.{admitted_reads}
 use Rattle.proxy_dispatch.proofs.acks.passing.Goals as goal
 
 pub going_on-requires-clause-readable : goal.going_on-requires-clause-readable

@@ -1,5 +1,5 @@
 use Rattle.proxy_dispatch.proofs.Common.{[], inl, inr, refl, IfOk-weaker}
-use Rattle.call_routing.specs.Opening.{IsRefusedFor}
+use Rattle.fork_call.specs.Opening.{IsRefusedFor}
 use Rattle.proxy_dispatch.proofs.Rejecting.{no_memory, rejected_at}
 use Rattle.proxy_dispatch.proofs.requests.opened.Goals as goal
 

@@ -1,6 +1,6 @@
 use Rattle.service_config.proofs.Common.{◌≡◌, ◌<◌, ℕ, Result, ap, length, slice_split, is, subst, sym, arith}
 use Rattle.service_config.specs.Configuration.{Draft, no_draft}
-use Rattle.fork_text.proofs.laws.Lines.{at_last_line, at_wrong_line, behind_line, if_added, if_not_added}
+use Rattle.fork_rank.proofs.laws.Lines.{at_last_line, at_wrong_line, behind_line, if_added, if_not_added}
 use Rattle.service_config.specs.ReadView.{GivesSettings}
 use Rattle.service_config.specs.Settings.{Settings}
 use Rattle.service_config.specs.inner.Reading.{IsSound, finished, read_from, read_settings, with_text}

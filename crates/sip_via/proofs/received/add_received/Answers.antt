@@ -1,5 +1,5 @@
 use Rattle.sip_via.proofs.Common.{List, ℕ, sym, subst, IsMessage, with_via_line}
-use Rattle.sip_via.specs.inner.Short.{short_text}
+use Rattle.sip_lex.specs.Short.{short_text}
 use Rattle.sip_via.proofs.laws.Marked.{marked-message}
 use Rattle.sip_via.proofs.received.add_received.Goals as goal
 

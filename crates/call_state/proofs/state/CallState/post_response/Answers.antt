@@ -1,6 +1,6 @@
 use Rattle.call_state.proofs.Common.{◌≡◌, ◌≤◌, ◌∙◌, ℕ, ◌++◌, ap, drop, false, length, map, slice_get, subst, sym, List, Option, filter_map, Core, is_full, Up, Table, core_of, table_of, event_of, up_of, Call, HaveDestinations, PostsSaid, destination_for}
 use Rattle.call_state.proofs.Common.{closing_of, no_branch, owed_by, destination_of_contact, Destination, Branch, Owed}
-use Rattle.call_answers.specs.Queue.{owed_in}
+use Rattle.call_caller.specs.Queue.{owed_in}
 use Rattle.call_state.proofs.NewRows.{said_posts, sized_more}
 use Rattle.call_state.proofs.state.CallState.post_response.Goals as goal
 

@@ -1,5 +1,5 @@
 use Rattle.fork_call.proofs.Common.{◌≡◌, ◌∙◌, ℕ, ◌≤◌, ◌++◌, ap, arith, length, replicate, subst, sym, List, None, Option, Core, most_targets, Log, table_of, status_of, Call, rows_of, seen_recipient, retimed, room_for, row_of_recipient}
-use Rattle.call_routing.specs.Matching.{BelongsTo}
+use Rattle.call_state.specs.Matching.{BelongsTo}
 use Rattle.fork_call.proofs.Arriving.{full_takes, ok_takes, on_err, same_on_err, taken_timed}
 use Rattle.fork_call.proofs.call.Call.take_by.Goals as goal
 

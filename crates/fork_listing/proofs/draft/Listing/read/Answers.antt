@@ -1,5 +1,5 @@
 use Rattle.fork_listing.proofs.Common.{ℕ, Result, subst, arith, Listing, drafted, finished_draft, common_steps}
-use Rattle.fork_text.proofs.laws.Lines.{if_added, if_not_added, at_last_line, at_wrong_line, behind_line}
+use Rattle.fork_rank.proofs.laws.Lines.{if_added, if_not_added, at_last_line, at_wrong_line, behind_line}
 use Rattle.fork_listing.specs.Text.{read_listing}
 use Rattle.fork_listing.specs.inner.ReadView.{GivesListing}
 use Rattle.fork_listing.proofs.draft.Listing.read.Goals as goal

@@ -1,5 +1,5 @@
 use Rattle.fork_program.proofs.Common.{ℕ, Result, subst, arith, Script, drafted, finished_draft, GivesScript, common_steps}
-use Rattle.fork_text.proofs.laws.Lines.{if_added, if_not_added, at_last_line, at_wrong_line, behind_line}
+use Rattle.fork_rank.proofs.laws.Lines.{if_added, if_not_added, at_last_line, at_wrong_line, behind_line}
 use Rattle.fork_program.specs.Script.{read_script}
 use Rattle.fork_program.proofs.script.Script.read_lines.Goals as goal
 

@@ -1,4 +1,0 @@
-pub mod Tokens
-pub mod OwnCredentials
-pub mod Opened
-pub mod Once

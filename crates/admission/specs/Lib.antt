@@ -1,5 +1,0 @@
-pub mod Dialog
-pub mod OwnCredentials
-pub mod Sender
-pub mod Decision
-pub mod SeenDecision

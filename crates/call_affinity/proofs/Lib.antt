@@ -1,0 +1,3 @@
+mod CallIds
+mod InOrder
+pub mod laws

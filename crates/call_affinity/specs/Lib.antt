@@ -1,0 +1,3 @@
+pub mod CallId
+pub mod Groups
+pub mod Runs

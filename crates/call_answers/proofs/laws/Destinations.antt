@@ -1,2 +1,0 @@
--- What the proofs of the crates above may cite: each new row goes to the destination of its contact.
-pub use Rattle.call_answers.proofs.NewDestinations.{each_goes, destinations_are}

@@ -1,6 +1,0 @@
-use Rattle.call_answers.proofs.Common.{◌≡◌, ◌++◌, flat_map, challenge_in}
-use Rattle.sip_text.specs.Seen.{views}
-use Rattle.call_answers.proofs.response_event.challenges_in.Given as goal
-
-abbrev pub invariant-loop-header : goal.invariant-loop-header
-invariant-loop-header g l = l.challenges.items ++ flat_map challenge_in (views l.header-iterator) ≡ flat_map challenge_in (views l.headers)

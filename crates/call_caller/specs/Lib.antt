@@ -1,0 +1,3 @@
+pub mod NewDestinations
+pub mod Queue
+pub mod Views

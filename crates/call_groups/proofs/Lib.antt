@@ -1,2 +1,0 @@
-mod InOrder
-pub mod laws

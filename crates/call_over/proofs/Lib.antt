@@ -1,3 +1,0 @@
-mod Machines
-mod Calls
-mod Steps

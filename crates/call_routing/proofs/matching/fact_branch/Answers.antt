@@ -1,6 +1,0 @@
-use Rattle.std.proofs.Common.{rules}
-use Rattle.sip_via.proofs.laws.Tokens.{all_small}
-use Rattle.call_routing.proofs.matching.fact_branch.Goals as goal
-
-pub returns : goal.returns
-returns c = record { sixteen = search rules; bytes = all_small c.args.name.key (λ i. search rules); instance = search rules; context = search rules; target = search rules }

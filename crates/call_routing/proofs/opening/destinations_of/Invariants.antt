@@ -1,5 +1,0 @@
-use Rattle.call_routing.proofs.Common.{◌≡◌, map, take, Some, table_of, destination_of_row}
-use Rattle.call_routing.proofs.opening.destinations_of.Given as goal
-
-abbrev pub invariant-loop-n : goal.invariant-loop-n
-invariant-loop-n g l = map Some l.destinations.items ≡ map (destination_of_row l.candidates) (take l.n (table_of l.book).rows)

@@ -1,7 +1,0 @@
-use Rattle.call_state.proofs.Common.{◌≡◌, ◌++◌, flat_map}
-use Rattle.sip_text.specs.Seen.{views}
-use Rattle.call_state.specs.inner.Reasons.{reason_in}
-use Rattle.call_state.proofs.reasons.reasons_among.Given as goal
-
-abbrev pub invariant-loop-header : goal.invariant-loop-header
-invariant-loop-header g l = l.lines.items ++ flat_map reason_in (views l.header-iterator) ≡ flat_map reason_in (views l.headers)

@@ -1,0 +1,154 @@
+-- What is known where a request was admitted, and where it was not.
+use Rattle.fork_call.proofs.OpeningCommon.{◌≡◌, ◌∙◌, true, false, Bool, ℕ, List, [], Option, Result, Ok, Err, ap, subst, IfOk, list_all, Rules, MessageText, StartText, Own, top_value, via_of, Call, OpenedRequest, IsAdmitted, target_uri, IsTurnedAway}
+use Rattle.fork_call.proofs.OpeningCommon.{IsBegun, CandidateTarget, has_hop}
+use Rattle.std.specs.Prelude.{IfErr, length, ◌==◌}
+use Rattle.std.proofs.Common.{sym}
+use Rattle.sip_text.specs.Text as texts
+use Rattle.sip_uri.specs.declared.hop.Hop.{Hop}
+use Rattle.sip_uri.specs.Uri.{Uri}
+use Rattle.sip_via.specs.Received.{reply_of}
+use Rattle.sip_route.specs.declared.route_values.FirstRoute.{FirstRoute}
+use Rattle.sip_route.specs.RouteValues.{first_route}
+use Rattle.sip_build.specs.Forwarding.{is_request}
+use Rattle.proxy_config.specs.Setup.{Setup}
+use Rattle.proxy_routing.specs.declared.fault.RequestRejection.{RequestRejection}
+use Rattle.proxy_routing.specs.declared.fault.RequestRejection.TheVariants.{BadRequest, Scheme, Hops, Loop, Extension, NoTarget, NoHop, NoMemory}
+use Rattle.proxy_routing.specs.declared.unrouted.Unrouted.{Unrouted}
+use Rattle.proxy_routing.specs.declared.unrouted.Unrouted.TheVariants as unrouted
+use Rattle.proxy_routing.specs.Admission.{IsPrepared, asks_extension}
+use Rattle.proxy_routing.specs.Unrouted.{IfRejected, IsGivenBack, IsTurnedBack}
+use Rattle.fork_call.specs.Opening.{Asks, IsOpenable, IsRefused, IsRefusedFor, IsUnreachable, Opens, Reaches, Refuses, candidates_for, opened_of, record_route_of, tried_by}
+use Rattle.fork_call.specs.inner.Refused.{IsRefusedAs, IsUnreachableAs}
+use Rattle.call_model.specs.declared.tried_contacts.TriedContacts.{TriedContacts}
+use Rattle.proxy_routing.specs.Targets.{candidates, candidates_by, hop_if_any, is_domain}
+
+pub openable : (start other : StartText) → start ≡ other → IsOpenable other → is_request start ≡ true
+openable start (texts.Request method uri) e h = ap is_request e
+openable start (texts.Response status reason) e h = absurd cc
+
+turned_away : (setup : Setup) (m : MessageText) (source : Hop) (fault : RequestRejection) → IsTurnedAway setup m source fault → Refuses setup m source fault
+turned_away setup m source BadRequest h = h
+turned_away setup m source Scheme h = h
+turned_away setup m source Hops h = h
+turned_away setup m source Loop h = h
+turned_away setup m source Extension h = absurd h
+turned_away setup m source NoTarget h = absurd h
+turned_away setup m source NoHop h = absurd h
+turned_away setup m source NoMemory h = absurd h
+
+behind : (setup : Setup) (m : MessageText) (source : Hop) (request : MessageText) → IsAdmitted setup m source request
+    → (fault : RequestRejection) → IsRefused setup request fault → Refuses setup m source fault
+behind setup m source request a BadRequest h = absurd h
+behind setup m source request a Scheme h = absurd h
+behind setup m source request a Hops h = absurd h
+behind setup m source request a Loop h = absurd h
+behind setup m source request a Extension h = (request, a, h)
+behind setup m source request a NoTarget h = (request, a, h)
+behind setup m source request a NoHop h = (request, a, h)
+behind setup m source request a NoMemory h = absurd h
+
+asked : (setup : Setup) (request : MessageText) (uri : Uri) → asks_extension request ≡ false → target_uri request ≡ Ok uri
+    → (fault : RequestRejection) → IsUnreachable setup request uri fault → IsRefused setup request fault
+asked setup request uri a t BadRequest h = absurd h
+asked setup request uri a t Scheme h = absurd h
+asked setup request uri a t Hops h = absurd h
+asked setup request uri a t Loop h = absurd h
+asked setup request uri a t Extension h = absurd h
+asked setup request uri a t NoTarget h = (a, uri, t, h)
+asked setup request uri a t NoHop h = (a, uri, t, h)
+asked setup request uri a t NoMemory h = absurd h
+
+-- what a fault behind the first four steps gives back
+given_back : (setup : Setup) (m : MessageText) (source : Hop) (request back : MessageText) → IsAdmitted setup m source request → back ≡ request
+    → (fault : RequestRejection) → IsRefused setup request fault → IsGivenBack setup m source fault back
+given_back setup m source request back a e BadRequest h = absurd h
+given_back setup m source request back a e Scheme h = absurd h
+given_back setup m source request back a e Hops h = absurd h
+given_back setup m source request back a e Loop h = absurd h
+given_back setup m source request back a e Extension h = let P : MessageText → Type 0 = λ x. IsPrepared setup m source x in subst P (sym e) a.prepared
+given_back setup m source request back a e NoTarget h = let P : MessageText → Type 0 = λ x. IsPrepared setup m source x in subst P (sym e) a.prepared
+given_back setup m source request back a e NoHop h = let P : MessageText → Type 0 = λ x. IsPrepared setup m source x in subst P (sym e) a.prepared
+given_back setup m source request back a e NoMemory h = absurd h
+
+module _ {A : Type 0} where
+  pub turned_back : (setup : Setup) (m : MessageText) (source : Hop) (why : Unrouted A) → IfRejected (IsTurnedBack setup m source) why → IfRejected (IsRefusedFor setup m source) why
+  turned_back setup m source (unrouted.Rejected fault back) h = (turned_away setup m source fault h.0, h.1)
+  turned_back setup m source unrouted.NoMemory h = tt
+
+  behind_if : (setup : Setup) (m : MessageText) (source : Hop) (request : MessageText) → IsAdmitted setup m source request
+      → (why : Unrouted A) → IfRejected (IsRefusedAs setup request) why → IfRejected (IsRefusedFor setup m source) why
+  behind_if setup m source request a (unrouted.Rejected fault back) h =
+      (behind setup m source request a fault h.0, given_back setup m source request back a h.1 fault h.0)
+  behind_if setup m source request a unrouted.NoMemory h = tt
+
+  asked_so : (setup : Setup) (request : MessageText) (uri : Uri) → asks_extension request ≡ false → target_uri request ≡ Ok uri
+      → (why : Unrouted A) → IfRejected (IsUnreachableAs setup request uri) why → IfRejected (IsRefusedAs setup request) why
+  asked_so setup request uri a t (unrouted.Rejected fault back) h = (asked setup request uri a t fault h.0, h.1)
+  asked_so setup request uri a t unrouted.NoMemory h = tt
+
+  -- of what is answered for a request that was admitted
+  pub opens_if : (setup : Setup) (number : ℕ) (m : MessageText) (source : Hop) (request : MessageText) → IsAdmitted setup m source request
+      → (r : Result Call (Unrouted A)) → IfOk r (λ call. Asks request (λ uri. Reaches setup number request source uri call)) → IfOk r (Opens setup number m source)
+  opens_if setup number m source request a (Ok call) h = (request, a, h)
+  opens_if setup number m source request a (Err why) h = tt
+
+  pub refuses_if : (setup : Setup) (m : MessageText) (source : Hop) (request : MessageText) → IsAdmitted setup m source request
+      → (r : Result Call (Unrouted A)) → IfErr r (IfRejected (IsRefusedAs setup request)) → IfErr r (IfRejected (IsRefusedFor setup m source))
+  refuses_if setup m source request a (Ok call) h = tt
+  refuses_if setup m source request a (Err why) h = behind_if setup m source request a why h
+
+  -- and of one that asks for no extension
+  pub asks_if : (setup : Setup) (number : ℕ) (source : Hop) (request : MessageText) (uri : Uri) → asks_extension request ≡ false → target_uri request ≡ Ok uri
+      → (r : Result Call (Unrouted A)) → IfOk r (Reaches setup number request source uri) → IfOk r (λ call. Asks request (λ u. Reaches setup number request source u call))
+  asks_if setup number source request uri a t (Ok call) h = (a, uri, t, h)
+  asks_if setup number source request uri a t (Err why) h = tt
+
+  pub asked_if : (setup : Setup) (request : MessageText) (uri : Uri) → asks_extension request ≡ false → target_uri request ≡ Ok uri
+      → (r : Result Call (Unrouted A)) → IfErr r (IfRejected (IsUnreachableAs setup request uri)) → IfErr r (IfRejected (IsRefusedAs setup request))
+  asked_if setup request uri a t (Ok call) h = tt
+  asked_if setup request uri a t (Err why) h = asked_so setup request uri a t why h
+
+-- ---- the call that opens for a request to a URI
+
+-- a vector of that length, which is not 0
+pub some_if : (cs slice : List CandidateTarget) (len : ℕ) (none : Bool) → none ≡ (len == 0) → none ≡ false → slice ≡ cs → length slice ≡ len → cs ≡ [] → ⊥
+some_if cs slice len none test false_is same long e =
+    let zero_long : length slice ≡ 0 = ap (λ (xs : List CandidateTarget). length xs) (same ∙ e) in
+    let zero_len : len ≡ 0 = sym long ∙ zero_long in
+    let is_none : none ≡ true = test ∙ ap (λ (k : ℕ). k == 0) zero_len in
+    absurd (let a : true ≡ false = sym is_none ∙ false_is in cc)
+
+pub fixed_so : (setup : Setup) (number : ℕ) (request : MessageText) (source : Hop) (uri : Uri) (own : Own) (instance : ℕ) (caller : Hop) (route : Option Hop) (inside streams : Bool) (recorded : Option (List ℕ))
+    (tried : TriedContacts) (stamps reasons : Bool) (ring : ℕ) (first : FirstRoute) (opened : OpenedRequest)
+    → opened ≡ record { number = number; own = own; instance = instance; request = request; caller = caller; route = route; tried = tried; record_route = recorded; stamps = stamps; reasons = reasons; ring = ring }
+    → own ≡ setup.own → instance ≡ setup.instance → caller ≡ reply_of (via_of (top_value request)) source
+    → route ≡ hop_if_any streams first → first ≡ first_route request → inside ≡ is_domain setup uri → tried ≡ tried_by inside streams → streams ≡ setup.streams
+    → recorded ≡ record_route_of setup request → stamps ≡ setup.stamps → reasons ≡ setup.reasons → ring ≡ setup.ring → opened ≡ opened_of setup number request source uri
+fixed_so setup number request source uri own instance caller route inside streams recorded tried stamps reasons ring first opened e p q r s t u a b v w x y =
+    let destination : route ≡ hop_if_any setup.streams (first_route request) =
+    s ∙ ap (hop_if_any streams) t ∙ ap (λ (x : Bool). hop_if_any x (first_route request)) b in
+    let which : tried ≡ tried_by (is_domain setup uri) setup.streams = a ∙ ap (λ (x : Bool). tried_by x streams) u ∙ ap (tried_by (is_domain setup uri)) b in
+    e ∙ (λ k. record {
+      number = number;
+      own = p k;
+      instance = q k;
+      request = request;
+      caller = r k;
+      route = destination k;
+      tried = which k;
+      record_route = v k;
+      stamps = w k;
+      reasons = x k;
+      ring = y k;
+    })
+
+pub reaches : (setup : Setup) (number : ℕ) (request : MessageText) (source : Hop) (uri : Uri) (rules : Rules) (inside : Bool) (route : FirstRoute) (opened : OpenedRequest) (cs : List CandidateTarget) (call : Call)
+    → cs ≡ candidates_by inside setup route uri → inside ≡ is_domain setup uri → (cs ≡ [] → ⊥) → list_all has_hop cs ≡ true → rules ≡ setup.rules → route ≡ first_route request
+    → opened ≡ opened_of setup number request source uri → IsBegun rules opened cs call → Reaches setup number request source uri call
+reaches setup number request source uri rules inside route opened cs call p i n h q r s b =
+    let whole : cs ≡ candidates_for setup request uri = p ∙ ap (λ (x : Bool). candidates_by x setup route uri) i ∙ ap (λ (x : FirstRoute). candidates setup x uri) r in
+    let H : List CandidateTarget → Type 0 = λ x. list_all has_hop x ≡ true in
+    let B : List CandidateTarget → Type 0 = λ x. IsBegun rules opened x call in
+    let C : Rules → Type 0 = λ x. IsBegun x opened (candidates_for setup request uri) call in
+    let E : OpenedRequest → Type 0 = λ x. IsBegun setup.rules x (candidates_for setup request uri) call in
+    record { some = λ e. n (whole ∙ e); hops = subst H whole h; begins = subst E s (subst C q (subst B whole b)) }

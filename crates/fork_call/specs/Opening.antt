@@ -1,0 +1,124 @@
+-- How a call opens, and why it does not (RFC 3261 sections 16.2 to 16.6).
+use Rattle.std.specs.Prelude.{◌≡◌, ◌≢◌, ℕ, Bool, ◌&&◌, true, false, List, [], Option, Some, None, Ok, if◌then◌else◌}
+use Rattle.std.specs.List.{list_all}
+use Rattle.fork_model.specs.History.{opening_rows}
+use Rattle.fork_model.specs.Table.{Rules}
+use Rattle.fork_model.specs.Log.{opening_log}
+use Rattle.sip_text.specs.Method.{known_method, stands_alone}
+use Rattle.sip_text.specs.Text.{MessageText, StartText}
+use Rattle.sip_uri.specs.declared.hop.Hop.{Hop}
+use Rattle.sip_uri.specs.Uri.{Uri}
+use Rattle.sip_via.specs.Received.{reply_of}
+use Rattle.sip_via.specs.TopVia.{top_value}
+use Rattle.sip_via.specs.ViaParts.{via_of}
+use Rattle.sip_route.specs.RouteValues.{first_route}
+use Rattle.sip_build.specs.Dialogs.{opens_dialog}
+use Rattle.sip_build.specs.OwnRoute.{own_route}
+use Rattle.proxy_config.specs.Setup.{Setup}
+use Rattle.call_model.specs.declared.tried_contacts.TriedContacts.{TriedContacts}
+use Rattle.call_model.specs.declared.tried_contacts.TriedContacts.TheVariants.{Every, NoContacts, OverUdp}
+use Rattle.call_model.specs.Begun.{begun}
+use Rattle.call_model.specs.Call.{Call}
+use Rattle.call_model.specs.OpenedRequest.{OpenedRequest, Destination, kind_of}
+use Rattle.proxy_routing.specs.declared.fault.RequestRejection.{RequestRejection}
+use Rattle.proxy_routing.specs.declared.fault.RequestRejection.TheVariants.{BadRequest, Scheme, Hops, Loop, Extension, NoTarget, NoHop, NoMemory}
+use Rattle.proxy_routing.specs.Admission.{IsAdmitted, asks_extension, target_uri}
+use Rattle.proxy_routing.specs.Refusing.{IsTurnedAway}
+use Rattle.proxy_routing.specs.Unrouted.{IsGivenBack}
+use Rattle.fork_call.specs.Destinations.{AreDestinations}
+use Rattle.proxy_routing.specs.Targets.{CandidateTarget, candidates, has_hop, hop_if_any, is_domain, targets_of}
+
+-- a request that opens a call: neither an ACK nor a CANCEL (sections 9.2 and 17.2.1)
+abbrev pub IsOpenable : StartText → Type 0
+IsOpenable start = stands_alone (known_method start) ≡ true
+
+-- the value of the Record-Route line by which the proxy stays on the path of the dialog that the request opens, where it is to
+-- (section 16.6 step 4)
+abbrev pub record_route_of : Setup → MessageText → Option (List ℕ)
+record_route_of setup request = if setup.records && opens_dialog request then Some (own_route setup.own) else None
+
+-- which contacts of a 3xx are tried: none where the proxy is not responsible for the Request-URI (section 16.5), and those over
+-- UDP alone where it has no streams
+abbrev pub tried_by : (responsible streams : Bool) → TriedContacts
+tried_by false streams = NoContacts
+tried_by true false = OverUdp
+tried_by true true = Every
+
+-- what the request to this URI, as it was prepared, opens with; its answers go where its top Via value says (section
+-- 18.2.2), and the proxy is responsible for a URI of its domain (section 16.5)
+abbrev pub opened_of : Setup → ℕ → MessageText → Hop → Uri → OpenedRequest
+opened_of setup number request source uri = record {
+  number = number;
+  own = setup.own;
+  instance = setup.instance;
+  request = request;
+  caller = reply_of (via_of (top_value request)) source;
+  route = hop_if_any setup.streams (first_route request);
+  tried = tried_by (is_domain setup uri) setup.streams;
+  record_route = record_route_of setup request;
+  stamps = setup.stamps;
+  reasons = setup.reasons;
+  ring = setup.ring;
+}
+
+-- a fork to these targets, of which nothing was sent yet
+abbrev pub IsBegun : Rules → OpenedRequest → List CandidateTarget → Call → Type 0
+IsBegun rules opened cs call =
+    (destinations : List Destination)
+    × AreDestinations cs (opening_rows (targets_of cs)) destinations
+    × (call ≡ begun opened (opening_log (kind_of opened) rules (targets_of cs)) destinations)
+
+-- ---- the first fault, or the call
+
+-- where the request may be sent, by its first Route value or by the targets themselves
+abbrev pub candidates_for : Setup → MessageText → Uri → List CandidateTarget
+candidates_for setup request uri = candidates setup (first_route request) uri
+
+-- why a request as it was prepared is not sent on to the targets that its URI leads to (sections 16.5 and 16.6)
+abbrev pub IsUnreachable : Setup → MessageText → Uri → RequestRejection → Type 0
+IsUnreachable setup request uri NoTarget = candidates_for setup request uri ≡ []
+IsUnreachable setup request uri NoHop =
+    (candidates_for setup request uri ≢ []) × (list_all has_hop (candidates_for setup request uri) ≡ false)
+-- the others come before these steps
+IsUnreachable setup request uri _ = ⊥
+
+-- or it is, as this call
+pub record Reaches (setup : Setup) (number : ℕ) (request : MessageText) (source : Hop) (uri : Uri) (call : Call) : Type 0 where
+  pub some : candidates_for setup request uri ≢ []
+  pub hops : list_all has_hop (candidates_for setup request uri) ≡ true
+  pub begins : IsBegun setup.rules (opened_of setup number request source uri) (candidates_for setup request uri) call
+
+-- it asks for no extension (section 16.3 step 5), and this is the URI that it names
+abbrev pub Asks : MessageText → (Uri → Type 0) → Type 0
+Asks request P = (asks_extension request ≡ false) × (uri : Uri) × (target_uri request ≡ Ok uri) × P uri
+
+-- the first fault behind the first four steps of section 16.3
+abbrev pub IsRefused : Setup → MessageText → RequestRejection → Type 0
+IsRefused setup request Extension = asks_extension request ≡ true
+IsRefused setup request NoTarget = Asks request (λ uri. IsUnreachable setup request uri NoTarget)
+IsRefused setup request NoHop = Asks request (λ uri. IsUnreachable setup request uri NoHop)
+IsRefused setup request _ = ⊥
+
+-- for the request as it was prepared behind these four
+abbrev pub Admitted : Setup → MessageText → Hop → (MessageText → Type 0) → Type 0
+Admitted setup m source P = (request : MessageText) × IsAdmitted setup m source request × P request
+
+-- each fault, where none before it holds
+abbrev pub Refuses : Setup → MessageText → Hop → RequestRejection → Type 0
+Refuses setup m source BadRequest = IsTurnedAway setup m source BadRequest
+Refuses setup m source Scheme = IsTurnedAway setup m source Scheme
+Refuses setup m source Hops = IsTurnedAway setup m source Hops
+Refuses setup m source Loop = IsTurnedAway setup m source Loop
+Refuses setup m source Extension = Admitted setup m source (λ request. IsRefused setup request Extension)
+Refuses setup m source NoTarget = Admitted setup m source (λ request. IsRefused setup request NoTarget)
+Refuses setup m source NoHop = Admitted setup m source (λ request. IsRefused setup request NoHop)
+Refuses setup m source NoMemory = Unit {0}
+
+-- with what the request is given back as
+abbrev pub IsRefusedFor : Setup → MessageText → Hop → RequestRejection → MessageText → Type 0
+IsRefusedFor setup m source fault back = Refuses setup m source fault × IsGivenBack setup m source fault back
+
+-- or the call, where none holds
+abbrev pub Opens : Setup → ℕ → MessageText → Hop → Call → Type 0
+Opens setup number m source call =
+    Admitted setup m source (λ request. Asks request (λ uri. Reaches setup number request source uri call))

@@ -1,6 +1,0 @@
-use denote.Param.Send.{sendable}
-use Rattle.fork_daemon.proofs.Sharing.{server_sync}
-use Rattle.fork_daemon.proofs.serving.server_is_shared.Goals as goal
-
-pub is_shared-requires-sync-T : goal.is_shared-requires-sync-T
-is_shared-requires-sync-T c κs = search (server_sync, sendable)

@@ -1,6 +1,0 @@
-mod Posts
-mod Drafting
-mod DraftedWorkers
-mod SpelledWorkers
-mod Running
-mod Done

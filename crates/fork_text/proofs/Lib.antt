@@ -1,4 +1,0 @@
-pub mod Common
-pub mod laws
-mod PreferredLists
-mod Numbers

@@ -1,0 +1,65 @@
+//! Counters that all threads share.
+use crate::call_counts::CallCounts;
+use crate::count::gauge;
+use crate::datagram_counts::DatagramCounts;
+use crate::latencies::HandlingTimes;
+use crate::metric::append_metrics;
+use std::alloc::{AllocError, Global};
+
+/// What a proxy counts. Who counts does nothing but additions.
+#[derive(Drop)]
+pub struct Counts {
+    pub calls: CallCounts,
+    pub datagrams: DatagramCounts,
+    pub latencies: HandlingTimes,
+}
+
+/// What is looked up at the moment in which the counters are asked for.
+#[derive(Clone, Copy)]
+pub struct Gauges {
+    /// For how many seconds the proxy serves.
+    pub seconds: u64,
+    /// How many calls it keeps.
+    pub held: u64,
+    /// How many bytes of memory its process has, if the system says so.
+    pub resident: Option<u64>,
+}
+
+/// Appends how much memory the process has, if that is known.
+fn append_resident(text: &mut Vec<u8>, resident: Option<u64>) -> Result<(), AllocError> {
+    match resident {
+        Some(bytes) => append_metrics(text, &[gauge(b"process_resident_memory_bytes", bytes)]),
+        None => Ok(()),
+    }
+}
+
+impl Counts {
+    /// Nothing was counted.
+    pub fn new() -> Counts {
+        Counts {
+            calls: CallCounts::new(),
+            datagrams: DatagramCounts::new(),
+            latencies: HandlingTimes::new(),
+        }
+    }
+
+    /// All counters as Prometheus text, behind what is looked up at this moment.
+    ///
+    /// # Errors
+    ///
+    /// Only where the allocator refuses.
+    pub fn text(&self, alloc: Global, gauges: Gauges) -> Result<Vec<u8>, AllocError> {
+        let mut text = Vec::new(alloc);
+        let metrics = [
+            gauge(b"forkproxy_uptime_seconds", gauges.seconds),
+            gauge(b"forkproxy_calls", gauges.held),
+            gauge(b"forkproxy_calls_open", self.calls.open()),
+        ];
+        append_metrics(&mut text, &metrics)?;
+        append_resident(&mut text, gauges.resident)?;
+        self.calls.append(&mut text)?;
+        self.datagrams.append(&mut text)?;
+        self.latencies.append(&mut text)?;
+        Ok(text)
+    }
+}

@@ -1,5 +1,0 @@
-use Rattle.proxy_metrics.proofs.Pieces.{three}
-use Rattle.proxy_metrics.proofs.histogram.append_ends.Goals as goal
-
-pub returns : goal.returns
-returns g c = three _ _ _ _ _ _ _ c.in_ok-append_value.ensures c.in_ok-append_value-2.ensures c.in_ok-append_value-3.ensures

@@ -1,0 +1,6 @@
+use denote.Param.Send.{sendable}
+use Rattle.serve_command.proofs.Sharing.{server_sync}
+use Rattle.serve_command.proofs.serving.server_is_shared.Goals as goal
+
+pub is_shared-requires-sync-T : goal.is_shared-requires-sync-T
+is_shared-requires-sync-T c κs = search (server_sync, sendable)

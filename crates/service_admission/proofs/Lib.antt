@@ -1,0 +1,5 @@
+mod Looking
+mod Rates
+mod Running
+mod Sweeping
+pub mod laws

@@ -1,0 +1,4 @@
+pub mod Configured
+pub mod Faults
+pub mod Memory
+pub mod Queue

@@ -1,0 +1,128 @@
+//! Why a proxy does not serve, or serves no longer.
+ghost use Rattle.std.specs.Prelude.{◌≡◌};
+ghost use Rattle.service_files.specs.declared.fault.DaemonFault.TheVariants as faults;
+ghost use Rattle.service_files.specs.Faults.{exit_status, IsConfigurationFault, IsControlFault, IsJournalFault, IsMetricsFault, IsSocketFault};
+
+use crate::setup::UnobeyedLine;
+use std::alloc::AllocError;
+use std::io;
+use std::io::ErrorKind;
+use thiserror::Error;
+
+/// Why a proxy does not serve, or serves no longer, with the words that a program prints.
+#[derive(Clone, Copy, Debug, PartialEq, Eq, Error)]
+pub enum DaemonFault {
+    /// The configuration's file cannot be read.
+    #[error("the configuration cannot be read")]
+    Unreadable,
+    /// The configuration has more bytes than are read.
+    #[error("the configuration is too long")]
+    TooLong,
+    /// The first malformed line of the configuration, counted from 1; a missing one has the number that it would have.
+    #[error("configuration, line {0}: malformed")]
+    Line(usize),
+    /// A line of the configuration is not obeyed yet.
+    #[error("configuration: {0} is not obeyed yet")]
+    Unobeyed(UnobeyedLine),
+    /// The address or the instance of a configuration that is read anew is another one.
+    #[error("address and instance may not change")]
+    Identity,
+    /// A growth was refused before the threads ran, a thread could not be made, or the system had no memory for the configuration's file or a
+    /// socket.
+    #[error("want of memory")]
+    NoMemory,
+    /// The clock cannot be read.
+    #[error("the clock cannot be read")]
+    Clock,
+    /// The address could not be bound, or a receive failed.
+    #[error("socket fault")]
+    Socket,
+    /// The control socket could not be made.
+    #[error("the control socket cannot be made")]
+    Control,
+    /// The address for those who scrape the counters could not be bound.
+    #[error("the metrics address cannot be bound")]
+    Metrics,
+    /// The file to which each call is written at its end could not be opened.
+    #[error("the journal cannot be opened")]
+    Journal,
+}
+
+impl DaemonFault {
+    /// The exit status of a program that ends with it: 1 for a refused configuration, 3 for want of memory, 5 for the system.
+    pub fn status(self) -> u8
+        ensures { result ≡ exit_status self }
+    {
+        match self {
+            DaemonFault::Unreadable
+            | DaemonFault::TooLong
+            | DaemonFault::Line(_)
+            | DaemonFault::Unobeyed(_)
+            | DaemonFault::Identity => 1,
+            DaemonFault::NoMemory => 3,
+            DaemonFault::Clock
+            | DaemonFault::Socket
+            | DaemonFault::Control
+            | DaemonFault::Metrics
+            | DaemonFault::Journal => 5,
+        }
+    }
+}
+
+impl From<AllocError> for DaemonFault {
+    ghost from_gives = { λ _ given. given ≡ faults.NoMemory };
+
+    fn from(_refused: AllocError) -> DaemonFault {
+        DaemonFault::NoMemory
+    }
+}
+
+/// Why a configuration's file cannot be read: the system refuses, or has no memory.
+pub fn configuration_fault(error: io::Error) -> DaemonFault
+    ensures { IsConfigurationFault result }
+{
+    match error.kind() {
+        ErrorKind::OutOfMemory => DaemonFault::NoMemory,
+        _ => DaemonFault::Unreadable,
+    }
+}
+
+/// Why the socket cannot be used: the system refuses, or has no memory.
+pub fn socket_fault(error: io::Error) -> DaemonFault
+    ensures { IsSocketFault result }
+{
+    match error.kind() {
+        ErrorKind::OutOfMemory => DaemonFault::NoMemory,
+        _ => DaemonFault::Socket,
+    }
+}
+
+/// Why the control socket cannot be made: the system refuses, or has no memory.
+pub fn control_fault(error: io::Error) -> DaemonFault
+    ensures { IsControlFault result }
+{
+    match error.kind() {
+        ErrorKind::OutOfMemory => DaemonFault::NoMemory,
+        _ => DaemonFault::Control,
+    }
+}
+
+/// Why the address for those who scrape the counters cannot be bound: the system refuses, or has no memory.
+pub fn metrics_fault(error: io::Error) -> DaemonFault
+    ensures { IsMetricsFault result }
+{
+    match error.kind() {
+        ErrorKind::OutOfMemory => DaemonFault::NoMemory,
+        _ => DaemonFault::Metrics,
+    }
+}
+
+/// Why the file to which each call is written cannot be opened: the system refuses, or has no memory.
+pub fn journal_fault(error: io::Error) -> DaemonFault
+    ensures { IsJournalFault result }
+{
+    match error.kind() {
+        ErrorKind::OutOfMemory => DaemonFault::NoMemory,
+        _ => DaemonFault::Journal,
+    }
+}

@@ -1,0 +1,23 @@
+//! What a service has of its system: the files of its configuration, its journal and its control socket, the memory that it may take, its UDP socket,
+//! the queue of what waits to be written, and why it does not serve.
+#![tactic(auto)]
+
+mod control_file;
+mod fault;
+mod files;
+mod journal;
+mod memory;
+mod options;
+mod queue;
+mod reading;
+mod setup;
+mod socket;
+mod system;
+
+pub use fault::{DaemonFault, configuration_fault, control_fault, journal_fault, metrics_fault, socket_fault};
+pub use files::ProxyFiles;
+pub use memory::{calls_within, group_limit, memory_total, most_calls_here, resident_bytes, resident_pages};
+pub use options::Options;
+pub use queue::{Batch, JournalQueue};
+pub use setup::{Identity, UnobeyedLine, read_setup, read_text};
+pub use socket::{SendOutcome, Socket};

@@ -1,0 +1,25 @@
+//! How a proxy serves.
+
+/// How a proxy serves, beside its configuration.
+#[derive(Clone, Copy)]
+pub struct Options<'a> {
+    /// The file of its configuration.
+    pub config: &'a str,
+    /// The file of its control socket.
+    pub control: &'a str,
+    /// The file to which each call is written at its end.
+    pub journal: Option<&'a str>,
+    /// How many calls it keeps at most; while it has so many it opens no more, but for a tenth of them for requests within dialogs. Left
+    /// out, it follows the memory of the machine (see [`crate::memory::most_calls_here`]).
+    pub most_calls: Option<u64>,
+    /// How many threads receive and handle datagrams.
+    pub workers: usize,
+    /// Whether it stays on the path of the dialogs that pass it.
+    pub records: bool,
+    /// Whether its own address counts as its domain with its own port alone.
+    pub own_port: bool,
+    /// How many datagrams one source address may send at once, and as many more each second; as many as it likes where this is left out.
+    pub most_per_source: Option<u32>,
+    /// The address and the port at which its counters are scraped.
+    pub metrics: Option<&'a str>,
+}

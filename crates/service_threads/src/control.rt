@@ -1,0 +1,120 @@
+//! What the control socket asks of a proxy.
+ghost use Rattle.std.specs.Prelude.{IfErr};
+ghost use Rattle.service_files.specs.Faults.{IsConfigurationFault};
+
+use crate::proxy::ServiceProxy;
+use control_socket::ControlHandler;
+use metrics::MetricsSource;
+use service_admission::ServiceState;
+use service_files::{DaemonFault, ProxyFiles, configuration_fault, resident_bytes};
+use std::io;
+use std::alloc::Global;
+use std::io::ErrorKind;
+use std::sync::Wait;
+use std::time::Clock;
+
+/// How many bytes a configuration has at most; of a longer file one more is read.
+const MOST_TEXT: usize = 1_048_576;
+
+/// A proxy under control.
+#[derive(Drop)]
+pub(crate) struct Control<'a, R> {
+    pub(crate) rt: &'a R,
+    pub(crate) proxy: &'a ServiceProxy,
+}
+
+/// The text of a configuration's file; of one that is too long as much as tells so.
+///
+/// # Errors
+///
+/// `Unreadable` where the system refuses, and `NoMemory`.
+pub(crate) fn read_config<R: ProxyFiles>(
+    rt: &R,
+    alloc: Global,
+    path: &str,
+) -> Result<Vec<u8>, DaemonFault>
+    ensures { IfErr result IsConfigurationFault }
+{
+    match rt.read_file(alloc, path, MOST_TEXT) {
+        Ok(text) => Ok(text),
+        Err(error) => Err(configuration_fault(error)),
+    }
+}
+
+impl<'a, R: Wait + Clock + ProxyFiles> Control<'a, R> {
+    /// Reads the configuration anew; calls keep what they were opened with.
+    ///
+    /// # Errors
+    ///
+    /// Where it is not taken; then the one before stays.
+    fn take_setup(&self) -> Result<(), DaemonFault> {
+        let proxy = self.proxy;
+        let text = read_config(self.rt, proxy.alloc, proxy.paths.config.as_str())?;
+        proxy.service.reload(self.rt, text.as_slice())
+    }
+
+    /// The counters as they stand now, in the text form of Prometheus.
+    ///
+    /// # Errors
+    ///
+    /// Want of memory for the text.
+    fn text(&self) -> io::Result<Vec<u8>> {
+        let proxy = self.proxy;
+        let resident = resident_bytes(self.rt, proxy.alloc);
+        let now = proxy.millis(self.rt);
+        Ok(proxy.service.stats(self.rt, now, resident)?)
+    }
+}
+
+impl<'a, R: Wait + Clock + ProxyFiles> ControlHandler for Control<'a, R> {
+    fn stop(&self, seconds: u64) {
+        self.proxy
+            .service
+            .drain(self.proxy.millis(self.rt), seconds);
+    }
+
+    fn reload(&self) -> Result<String<Global>, io::Error> {
+        let alloc = self.proxy.alloc;
+        match self.take_setup() {
+            Ok(()) => Ok(format!(in alloc; "taken\n")?),
+            Err(fault) => Ok(format!(in alloc; "refused: {fault}\n")?),
+        }
+    }
+
+    fn stats(&self) -> Result<String<Global>, io::Error> {
+        match String::from_utf8(self.text()?) {
+            Ok(text) => Ok(text),
+            Err(_) => Err(io::Error::from(ErrorKind::InvalidData)),
+        }
+    }
+
+    fn calls(&self, from: u64) -> Result<Vec<u8>, io::Error> {
+        let proxy = self.proxy;
+        let mut text = Vec::new(proxy.alloc);
+        let now = proxy.millis(self.rt);
+        proxy.service.append_calls(self.rt, from, now, &mut text)?;
+        Ok(text)
+    }
+
+    fn call(&self, number: u64) -> Result<Vec<u8>, io::Error> {
+        let proxy = self.proxy;
+        let mut text = Vec::new(proxy.alloc);
+        let now = proxy.millis(self.rt);
+        proxy.service.append_call(self.rt, number, now, &mut text)?;
+        Ok(text)
+    }
+
+    fn has_ended(&self) -> bool {
+        self.proxy.service.is_in(ServiceState::Ended)
+    }
+}
+
+impl<'a, R: Wait + Clock + ProxyFiles> MetricsSource for Control<'a, R> {
+    fn counters(&self) -> io::Result<Vec<u8>> {
+        self.text()
+    }
+
+    fn has_ended(&self) -> bool {
+        self.proxy.service.is_in(ServiceState::Ended)
+    }
+}

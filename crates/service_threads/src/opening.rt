@@ -1,0 +1,102 @@
+//! What a proxy takes of the system before it serves: its address, its journal, the address for scrapers, and the control socket, last of
+//! all, so that a proxy that is refused has taken nothing of one that serves.
+ghost use Rattle.std.specs.Prelude.{IfErr};
+ghost use Rattle.service_threads.specs.Faults.{IsSystemFault};
+
+use metrics::PageSockets;
+use service_files::{DaemonFault, Options, ProxyFiles, Socket, control_fault, journal_fault, metrics_fault};
+use sip_uri::Hop;
+use std::alloc::{AllocError, Global};
+use std::net::{Net, TcpListener};
+use std::os::unix::net::UnixListener;
+
+/// How many bytes of a datagram are received.
+const MOST_BYTES: usize = 65_535;
+
+/// The sockets at which a proxy tells of itself.
+#[derive(Drop)]
+pub(crate) struct Listeners {
+    pub(crate) control: UnixListener,
+    /// For those who scrape the counters, if there is an address for them.
+    pub(crate) metrics: Option<TcpListener>,
+}
+
+/// Binds an address.
+#[tactic(auto, using(crate::proofs::Faults::socket_is_system))]
+pub(crate) fn bound<R: Net>(rt: &R, own: Hop) -> Result<Socket, DaemonFault>
+    ensures { IfErr result IsSystemFault }
+{
+    Socket::bind(rt, own)
+}
+
+/// Sees that the journal can be written, if there is one.
+#[tactic(auto, using(crate::proofs::Faults::journal_is_system))]
+fn open_journal<R: ProxyFiles>(rt: &R, path: Option<&str>) -> Result<(), DaemonFault>
+    ensures { IfErr result IsSystemFault }
+{
+    let Some(path) = path else {
+        return Ok(());
+    };
+    match rt.open_journal(path) {
+        Ok(()) => Ok(()),
+        Err(error) => Err(journal_fault(error)),
+    }
+}
+
+/// Listens at the address for those who scrape the counters, if there is one.
+#[tactic(auto, using(crate::proofs::Faults::metrics_is_system))]
+fn open_metrics<R: PageSockets>(
+    rt: &R,
+    address: Option<&str>,
+) -> Result<Option<TcpListener>, DaemonFault>
+    ensures { IfErr result IsSystemFault }
+{
+    let Some(address) = address else {
+        return Ok(None);
+    };
+    match rt.listen_on(address) {
+        Ok(listener) => Ok(Some(listener)),
+        Err(error) => Err(metrics_fault(error)),
+    }
+}
+
+/// Listens at the control socket's file, where no other proxy does.
+#[tactic(auto, using(crate::proofs::Faults::control_is_system))]
+fn open_control<R: ProxyFiles>(rt: &R, path: &str) -> Result<UnixListener, DaemonFault>
+    ensures { IfErr result IsSystemFault }
+{
+    match rt.listen_at(path) {
+        Ok(listener) => Ok(listener),
+        Err(error) => Err(control_fault(error)),
+    }
+}
+
+/// Opens what options name: the journal, then the address for scrapers, then the control socket.
+///
+/// # Errors
+///
+/// `Journal`, `Metrics` and `Control` where the system refuses the one or the other, and `NoMemory`. Then the control socket's file is as it
+/// was.
+pub(crate) fn open_all<R: ProxyFiles + PageSockets>(
+    rt: &R,
+    options: Options<'_>,
+) -> Result<Listeners, DaemonFault>
+    ensures { IfErr result IsSystemFault }
+{
+    open_journal(rt, options.journal)?;
+    let metrics = open_metrics(rt, options.metrics)?;
+    let control = open_control(rt, options.control)?;
+    Ok(Listeners { control, metrics })
+}
+
+/// A buffer for each of so many workers.
+pub(crate) fn buffers_of(alloc: Global, workers: usize) -> Result<Vec<Vec<u8>>, AllocError> {
+    let mut buffers = Vec::new(alloc);
+    for _ in 0..workers {
+        let buffer = vec![in alloc; 0u8; MOST_BYTES]?;
+        if buffers.push(buffer).is_err() {
+            return Err(AllocError);
+        }
+    }
+    Ok(buffers)
+}

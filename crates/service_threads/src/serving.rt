@@ -1,0 +1,264 @@
+//! A proxy serves until it is told to stop.
+ghost use denote.Param.Send.{IsSync};
+ghost use Rattle.service_threads.specs.contracts.serving.Server.{the_row as server_row};
+ghost use Rattle.std.specs.Prelude.{◌≡◌, ◌/◌, ◌%◌, ◌^◌, ◌↔◌, ◌<◌, length, IfErr, OnOk, IsErrOf};
+ghost use Rattle.std.specs.Duration.{as_nanos};
+ghost use Rattle.service_files.specs.declared.fault.DaemonFault.TheVariants as faults;
+ghost use Rattle.service_files.specs.Faults.{most_text, IsConfigurationFault};
+ghost use Rattle.service_threads.specs.Faults.{IsServeFault, IsServeFaultOf, IsSystemFault, Spells};
+
+use crate::control::{Control, read_config};
+use crate::crew::{ServerThreads, is_shared, run};
+use crate::opening::{Listeners, bound, buffers_of, open_all};
+use crate::proxy::{ServiceProxy, StartOptions};
+use call_table::Epoch;
+use control_socket::listen;
+use fork_call::Setup;
+use libc::net;
+use libc::types::pollfd;
+use metrics::{PageSockets, answer_scrapers};
+use service_files::{DaemonFault, Options, ProxyFiles, Socket, read_setup, read_text};
+use sip_uri::Hop;
+use std::alloc::Global;
+use std::io::Print;
+use std::net::Net;
+use std::os::fd::AsRawFd;
+use std::sync::Wait;
+use std::thread::Threads;
+use std::time::{Clock, Duration, SystemTime};
+
+/// The descriptor of the standard output.
+const STANDARD_OUTPUT: i32 = 1;
+
+/// A proxy, and the sockets at which it tells of itself.
+#[derive(Drop)]
+struct Server {
+    proxy: ServiceProxy,
+    listeners: Listeners,
+}
+
+/// Whether the standard output takes a line at this moment: a pipe that nobody reads may be full, and would keep the end.
+fn can_print() -> bool {
+    let mut asked = [pollfd {
+        fd: STANDARD_OUTPUT,
+        events: net::POLLOUT,
+        revents: 0,
+    }];
+    net::poll(&mut asked, 0) > 0
+}
+
+impl ServerThreads<Socket> for Server {
+    fn work<R: Wait + Clock>(
+        &self,
+        rt: &R,
+        socket: &Socket,
+        mut buffer: Vec<u8>,
+    ) -> Result<(), DaemonFault> {
+        self.proxy.work(rt, socket, buffer.as_mut_slice())
+    }
+
+    fn keep_time<R: Wait + Clock>(&self, rt: &R, socket: &Socket) {
+        self.proxy.keep_time(rt, socket);
+    }
+
+    fn answer<R: Wait + ProxyFiles + Clock>(&self, rt: &R) {
+        let control = Control {
+            rt,
+            proxy: &self.proxy,
+        };
+        listen(rt, self.proxy.alloc, &control, &self.listeners.control);
+    }
+
+    fn show<R: Wait + ProxyFiles + Clock + PageSockets>(&self, rt: &R) {
+        let control = Control {
+            rt,
+            proxy: &self.proxy,
+        };
+        if let Some(listener) = &self.listeners.metrics {
+            answer_scrapers(rt, self.proxy.alloc, &control, listener);
+        }
+    }
+
+    fn write<R: Wait + ProxyFiles + Clock>(&self, rt: &R) {
+        self.proxy.write_journal(rt);
+    }
+
+    fn end(&self) {
+        self.proxy.service.end();
+    }
+
+    fn finish<R: Wait + Clock>(&self, rt: &R) {
+        self.proxy.service.write_down_left(rt);
+        self.proxy.end_journal();
+        if let Some(listener) = &self.listeners.metrics {
+            let _ = net::shutdown(listener.as_raw_fd(), net::SHUT_RDWR);
+        }
+    }
+
+    fn leave<R: Wait + ProxyFiles + Print>(&self, rt: &R) {
+        rt.take_file_away(self.proxy.paths.control.as_str());
+        let service = &self.proxy.service;
+        let opened = service.opened(rt);
+        let left = service.held(rt);
+        if can_print() {
+            let _ = rt.println(format_args!("ended, {opened} calls, {left} left"));
+        }
+    }
+
+    fn close(&self) {
+        let _ = net::shutdown(self.listeners.control.as_raw_fd(), net::SHUT_RDWR);
+    }
+}
+
+/// Shows that threads may share a server.
+fn server_is_shared(server: &Server)
+    ensures { IsSync server_row }
+{
+    is_shared(server);
+}
+
+/// Tells where a proxy listens.
+fn print_listening<P: Print>(out: &P, own: Hop) {
+    let [a, b, c, d] = own.addr;
+    let port = own.port;
+    let _ = out.println(format_args!("listening {a}.{b}.{c}.{d} {port}"));
+}
+
+/// Tells where the proxy listens, and lets it run until the end.
+fn run_server<R: Threads + Wait + ProxyFiles + PageSockets + Clock + Print + Sync>(
+    rt: &R,
+    server: &Server,
+    socket: Socket,
+    buffers: Vec<Vec<u8>>,
+) -> Result<(), DaemonFault>
+    ensures { IfErr result IsSystemFault }
+{
+    server_is_shared(server);
+    print_listening(rt, server.proxy.own);
+    run(rt, server.proxy.alloc, server, socket, buffers)
+}
+
+/// The address that a setup names.
+fn own_of(setup: &Setup<Global>) -> Hop {
+    let own = setup.own();
+    Hop::over_udp(own.addr, own.port)
+}
+
+/// A proxy without a call at this address, with its control socket, the address for scrapers and the journal: what options name is opened last,
+/// and the control socket behind all that may be refused.
+fn server_of<R: Clock + ProxyFiles + PageSockets>(
+    rt: &R,
+    alloc: Global,
+    setup: Setup<Global>,
+    start: StartOptions<'_>,
+    own: Hop,
+) -> Result<Server, DaemonFault>
+    ensures { IfErr result IsSystemFault }
+{
+    let Some(epoch) = Epoch::now(rt) else {
+        return Err(DaemonFault::Clock);
+    };
+    let Ok(proxy) = ServiceProxy::new(rt, alloc, start, setup, own, epoch) else {
+        return Err(DaemonFault::NoMemory);
+    };
+    match open_all(rt, start.options) {
+        Ok(listeners) => Ok(Server { proxy, listeners }),
+        Err(fault) => Err(fault),
+    }
+}
+
+/// Serves as a setup says, at its address, which is taken first.
+fn serve_setup<R: Threads + Wait + Net + ProxyFiles + PageSockets + Clock + Print + Sync>(
+    rt: &R,
+    alloc: Global,
+    setup: Setup<Global>,
+    start: StartOptions<'_>,
+) -> Result<(), DaemonFault>
+    ensures { IfErr result IsSystemFault }
+{
+    let own = own_of(&setup);
+    let socket = bound(rt, own)?;
+    let Ok(buffers) = buffers_of(alloc, start.options.workers.max(1)) else {
+        return Err(DaemonFault::NoMemory);
+    };
+    match server_of(rt, alloc, setup, start, own) {
+        Ok(server) => run_server(rt, &server, socket, buffers),
+        Err(fault) => Err(fault),
+    }
+}
+
+/// Reads a configuration's file, and answers whether a proxy would serve by it. Where it has no line of an instance, none is missing.
+///
+/// # Errors
+///
+/// `Unreadable` where the system refuses; `TooLong` over 1,048,576 bytes; `Line` with the first malformed line; `Unobeyed` with a line that
+/// is not obeyed yet; `NoMemory`.
+pub fn check_config<R: ProxyFiles>(rt: &R, alloc: Global, config: &str) -> Result<(), DaemonFault>
+    ensures { IfErr result IsConfigurationFault }
+{
+    let setup = read_setup(rt, alloc, config, 0)?;
+    drop(setup);
+    Ok(())
+}
+
+/// Serves as [`serve`] does, by this text of a configuration; `reload` reads the configuration's file. Where a text has no line of an
+/// instance, this number of the run is its instance.
+///
+/// # Errors
+///
+/// Those of [`serve`] but for `Unreadable`.
+#[tactic(auto, using(crate::proofs::Faults::read_is_serve, crate::proofs::Faults::system_is_serve))]
+pub fn serve_text<R: Threads + Wait + Net + ProxyFiles + PageSockets + Clock + Print + Sync>(
+    rt: &R,
+    alloc: Global,
+    text: &[u8],
+    number: u32,
+    options: Options<'_>,
+) -> Result<(), DaemonFault>
+    ensures served { OnOk result (Spells text.now number) }
+    ensures too_long { IsErrOf result faults.TooLong ↔ (most_text < length text.now) }
+    ensures fault { IfErr result (IsServeFaultOf text.now number) }
+{
+    let setup = read_text(alloc, text, number)?;
+    serve_setup(rt, alloc, setup, StartOptions { options, number })
+}
+
+/// The number of a run that begins so long after the beginning of 1970: the milliseconds, without what is beyond 32 bits. Two runs have the
+/// same where they begin 49.7 days apart, to the millisecond.
+fn number_at(passed: Duration) -> u32
+    ensures { result ≡ (as_nanos passed / 1_000_000) % 2 ^ 32 }
+{
+    (passed.as_millis() % 4_294_967_296) as u32
+}
+
+/// The number of a run that begins now; 0 where the clock cannot be read.
+fn number_of_run<R: Clock>(rt: &R) -> u32 {
+    match SystemTime::UNIX_EPOCH.elapsed(rt) {
+        Ok(passed) => number_at(passed),
+        Err(_) => 0,
+    }
+}
+
+/// Serves until it is told to stop, at the control socket. It tells where it listens, and at the end how many calls it had and how
+/// many were left. Where the configuration has no line of an instance, that is the time of the start, in milliseconds since 1970, without
+/// what is beyond 32 bits. What its threads do is proved call by call (`proxy_service`, `proxy_dispatch::handle`, `fork_call::carry`); no
+/// clause says what they do together.
+///
+/// # Errors
+///
+/// The configuration's faults as [`check_config`] finds them; `Socket` where the address cannot be bound or a receive failed; `Clock`
+/// where the clock cannot be read; `Journal` where the journal cannot be opened; `Metrics` where the address for scrapers cannot be bound;
+/// `Control` where the control socket cannot be made, or another proxy has it; `NoMemory` where the allocator refuses or a thread could not
+/// be made. A proxy that is refused has taken nothing of another one.
+#[tactic(auto, using(crate::proofs::Faults::configuration_is_serve, crate::proofs::Faults::text_is_serve))]
+pub fn serve<R: Threads + Wait + Net + ProxyFiles + PageSockets + Clock + Print + Sync>(
+    rt: &R,
+    alloc: Global,
+    options: Options<'_>,
+) -> Result<(), DaemonFault>
+    ensures { IfErr result IsServeFault }
+{
+    let number = number_of_run(rt);
+    let text = read_config(rt, alloc, options.config)?;
+    serve_text(rt, alloc, text.as_slice(), number, options)
+}

@@ -1,0 +1,12 @@
+pub mod CSeqAgain
+pub mod Common
+pub mod Forwarded
+pub mod HeaderValues
+pub mod MarkedValues
+pub mod MarkedVia
+pub mod RequestsGood
+pub mod TrimmedVias
+pub mod UpwardGood
+pub mod ViasUpward
+pub mod WrittenTexts
+pub mod laws

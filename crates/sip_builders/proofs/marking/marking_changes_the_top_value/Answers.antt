@@ -1,0 +1,5 @@
+use Rattle.sip_builders.proofs.MarkedValues.{values-of-marked}
+use Rattle.sip_builders.proofs.marking.marking_changes_the_top_value.Goals as goal
+
+pub returns : goal.returns
+returns c = values-of-marked

@@ -1,5 +1,0 @@
-use Rattle.sip_message.proofs.MarkedValues.{values-of-marked}
-use Rattle.sip_message.proofs.marking.marking_changes_the_top_value.Goals as goal
-
-pub returns : goal.returns
-returns c = values-of-marked

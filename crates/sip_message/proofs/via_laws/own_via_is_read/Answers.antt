@@ -1,5 +1,0 @@
-use Rattle.sip_via.proofs.laws.PlainVia.{own-read}
-use Rattle.sip_message.proofs.via_laws.own_via_is_read.Goals as goal
-
-pub returns : goal.returns
-returns c = own-read

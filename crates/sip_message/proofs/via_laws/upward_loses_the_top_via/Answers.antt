@@ -1,5 +1,0 @@
-use Rattle.sip_message.proofs.ViasUpward.{vias-upward}
-use Rattle.sip_message.proofs.via_laws.upward_loses_the_top_via.Goals as goal
-
-pub returns : goal.returns
-returns c = vias-upward

@@ -1,5 +1,0 @@
-pub mod laws
-mod Sweeping
-mod Rates
-mod Running
-mod Looking
