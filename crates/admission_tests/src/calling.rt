@@ -3,7 +3,10 @@ use crate::answers::{Wanted, is_answer};
 use crate::passwords::{Password, line_if_any};
 use crate::requests::{joined, request};
 use crate::world::{SECOND, SECRET, domain, realm, users};
-use authentication::{Arrival, CallAdmission, Decision, RealmSecrets, Rule, decision_of, is_for_registrar, is_of_dialog};
+use authentication::{
+    Arrival, CallAdmission, Decision, RealmSecrets, Rule, decision_of, is_for_registrar,
+    is_of_dialog,
+};
 use sip_build::OwnStatus;
 use sip_digest::append_dialog_token;
 use sip_text::Message;

@@ -10,7 +10,10 @@ use crate::address::address_of;
 use crate::challenge::Challenger;
 use crate::given::given_in;
 use crate::realm::RealmSecrets;
-use sip_digest::{AuthText, Credentials, CredentialsVerdict, JudgedRequest, ReadCredentials, is_uri_of, verdict_of};
+use sip_digest::{
+    AuthText, Credentials, CredentialsVerdict, JudgedRequest, ReadCredentials, is_uri_of,
+    verdict_of,
+};
 use sip_route::request_uri;
 use sip_text::Message;
 use std::alloc::{AllocError, Allocator};
@@ -96,7 +99,11 @@ fn judged<'a, A: Allocator + Clone, U: Allocator + Clone>(
 }
 
 /// The request that credentials came with.
-fn asked_of<'a, M: Allocator>(message: &'a Message<M>, address: &'a [u8], second: u32) -> JudgedRequest<'a>
+fn asked_of<'a, M: Allocator>(
+    message: &'a Message<M>,
+    address: &'a [u8],
+    second: u32,
+) -> JudgedRequest<'a>
     ensures { asked_as result ≡ arrival_of message.now address.now second }
 {
     JudgedRequest {

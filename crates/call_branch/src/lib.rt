@@ -22,4 +22,7 @@ pub use destination::Destination;
 pub use opened::{OpenedRequest, Opening};
 pub use reasons::ReasonLines;
 pub use reliability::reliability_of;
-pub use responses::{answer_event, is_fault, is_passed, is_redirection, is_request, is_response, is_timeout, keep_if_best, response_event, response_status, split_response};
+pub use responses::{
+    answer_event, is_fault, is_passed, is_redirection, is_request, is_response, is_timeout,
+    keep_if_best, response_event, response_status, split_response,
+};

@@ -84,7 +84,10 @@ fn append_asked<A: Allocator>(out: &mut Vec<u8, A>, head: &CallRecord<'_>) -> Re
 }
 
 /// Appends who called, and the Call-ID.
-fn append_caller<A: Allocator>(out: &mut Vec<u8, A>, head: &CallRecord<'_>) -> Result<(), AllocError>
+fn append_caller<A: Allocator>(
+    out: &mut Vec<u8, A>,
+    head: &CallRecord<'_>,
+) -> Result<(), AllocError>
     ensures { OnOk result (out.new.items ≡ out.old.items ++ caller_text head.now) }
 {
     append(out, b" from ")?;

@@ -7,5 +7,8 @@
 mod law;
 mod over;
 
-pub use law::{calls_pay_in_order, calls_send_right, each_datagram_is_right, each_success_goes_up, one_final_answer_goes_up, what_is_sent_is_right};
+pub use law::{
+    calls_pay_in_order, calls_send_right, each_datagram_is_right, each_success_goes_up,
+    one_final_answer_goes_up, what_is_sent_is_right,
+};
 pub use over::calls_that_are_over_are_quiet;

@@ -41,8 +41,14 @@ ghost use Rattle.call_state.specs.inner.StatesShown.{state_shown};
 use crate::closing::Closing;
 use crate::fault::PostFault;
 use crate::look::timer_c_at;
-use call_branch::{Branch, CancelTransaction, ClientTransaction, Destination, OpenedRequest, ReasonLines, answer_event, branch_in, destination_at, is_response, no_branches, put_branch, response_event};
-use call_caller::{OwedAnswer, PendingResponses, ResponseEvent, ResponseQueue, ServerTransaction, add_rows, initial_queue, resend_if, response_for};
+use call_branch::{
+    Branch, CancelTransaction, ClientTransaction, Destination, OpenedRequest, ReasonLines,
+    answer_event, branch_in, destination_at, is_response, no_branches, put_branch, response_event,
+};
+use call_caller::{
+    OwedAnswer, PendingResponses, ResponseEvent, ResponseQueue, ServerTransaction, add_rows,
+    initial_queue, resend_if, response_for,
+};
 use call_model::{Cause, Datagram, Step, Taken};
 use fork_book::Book;
 use fork_context::{Event, Kind, PostError, State, Up};
@@ -246,7 +252,12 @@ impl<A: Allocator + Clone> CallState<A> {
 
     /// Notes that a response of branch n was posted: when timer C fires from now on, and the failure that is kept, if there
     /// is one.
-    pub(crate) fn keep_branch(&mut self, n: u16, timer_c_at: Option<u64>, answer: Option<Message<A>>)
+    pub(crate) fn keep_branch(
+        &mut self,
+        n: u16,
+        timer_c_at: Option<u64>,
+        answer: Option<Message<A>>,
+    )
         requires there { n < length self.old.branches }
         ensures { self.new ≡ record self.old { branches = changed_branch (kept timer_c_at answer) self.old.branches n } }
     {

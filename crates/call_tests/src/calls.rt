@@ -1,6 +1,8 @@
 //! A call from its request on.
 use crate::holds::holds;
-use crate::recipients::{CALLER, CANCELLING, FIRST, INVITE, INVITING, NO_VIA, OKAY, RINGING, SECOND, SETUP, message_of};
+use crate::recipients::{
+    CALLER, CANCELLING, FIRST, INVITE, INVITING, NO_VIA, OKAY, RINGING, SECOND, SETUP, message_of,
+};
 use crate::requests::{SOURCE, opening_of, setup_of};
 use call_table::Pending;
 use fork_call::{Call, Cause, Datagram, PendingCall, Setup, Step, TakeFault, Taken, is_openable};

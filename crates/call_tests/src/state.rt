@@ -8,7 +8,9 @@ ghost use Rattle.call_model.specs.Sound.{IsSound};
 use crate::holds::holds;
 use call_branch::{Destination, OpenedRequest, Opening, is_redirection, response_status};
 use call_caller::PendingResponse;
-use call_model::{Cause, Datagram, Step, Taken, TriedContacts, branches_keep_their_answers, calls_stay_sound};
+use call_model::{
+    Cause, Datagram, Step, Taken, TriedContacts, branches_keep_their_answers, calls_stay_sound,
+};
 use call_state::CallState;
 use fork_book::Book;
 use fork_context::{Kind, Target};
@@ -552,7 +554,11 @@ fn a_call_begins(rt: HostRuntime) {
     state.set_number(4);
     holds(&rt, state.opened().number() == 4, "its later number");
     holds(&rt, state.opened().kind() == Kind::Invite, "its kind");
-    holds(&rt, response_status(state.opened().request()) == 0, "its request");
+    holds(
+        &rt,
+        response_status(state.opened().request()) == 0,
+        "its request",
+    );
     holds(&rt, is_redirection(399), "a 399 is a redirection");
     holds(&rt, state.book().history().is_empty(), "nothing was posted");
     holds(&rt, state.owed().len() == 1, "one answer is owed");

@@ -95,11 +95,17 @@ impl<'a, R: Clock, C: ControlHandler> ControlClients<'a, R, C> {
                     waits: has_room,
                 });
             }
-            ControlCommand::Reload => ClientAnswer::new(b"", self.controlled.reload()?.into_bytes()),
+            ControlCommand::Reload => ClientAnswer::new(
+                b"",
+                self.controlled.reload()?.into_bytes(),
+            ),
             ControlCommand::Stats => ClientAnswer::new(b"", self.controlled.stats()?.into_bytes()),
             ControlCommand::Calls(from) => ClientAnswer::new(b"", self.controlled.calls(from)?),
             ControlCommand::Call(number) => ClientAnswer::new(b"", self.controlled.call(number)?),
-            ControlCommand::Metrics => ClientAnswer::new(HEAD, self.controlled.stats()?.into_bytes()),
+            ControlCommand::Metrics => ClientAnswer::new(
+                HEAD,
+                self.controlled.stats()?.into_bytes(),
+            ),
             ControlCommand::Unknown => ClientAnswer::fixed(self.alloc, b"unknown\n"),
         };
         Ok(ControlReply {

@@ -1,6 +1,8 @@
 //! Lists of users.
 use crate::holds::{holds, holds_of, is};
-use sip_digest::{Algorithms, Secrets, UserFault, UserList, append_user as append_line, is_user_name};
+use sip_digest::{
+    Algorithms, Secrets, UserFault, UserList, append_user as append_line, is_user_name,
+};
 use std::alloc::{AllocError, Global};
 
 /// A text, with comments and empty lines.

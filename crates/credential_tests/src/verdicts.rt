@@ -1,6 +1,9 @@
 //! Whether credentials are right: those of bob, whose password is `secret`, by SHA-256 for a REGISTER.
 use crate::holds::holds;
-use sip_digest::{Algorithms, CredentialsVerdict, JudgedRequest, Protection, ReadCredentials, Secrets, append_nonce, is_uri_of, read_credentials, sha256_response, verdict_of};
+use sip_digest::{
+    Algorithms, CredentialsVerdict, JudgedRequest, Protection, ReadCredentials, Secrets,
+    append_nonce, is_uri_of, read_credentials, sha256_response, verdict_of,
+};
 use std::alloc::{AllocError, Global};
 
 const SECRET: [u8; 32] = [7; 32];

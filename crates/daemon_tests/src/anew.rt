@@ -1,6 +1,8 @@
 //! A configuration that is read anew.
 use crate::played::{Moment, PLAIN, Served, Turn, plays, plays_by};
-use crate::texts::{ASKED, BESIDE, BOB, CALLER, CAROL, CAROL_AFTERWARDS, CONFIGURATION, INVITE, OPTIONS, Request};
+use crate::texts::{
+    ASKED, BESIDE, BOB, CALLER, CAROL, CAROL_AFTERWARDS, CONFIGURATION, INVITE, OPTIONS, Request,
+};
 use service_admission::ServiceState;
 use service_files::DaemonFault;
 

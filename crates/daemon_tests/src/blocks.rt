@@ -11,8 +11,8 @@ use proxy_service::append_block;
 use service_files::{DaemonFault, Options};
 use service_threads::{check_config, serve_text};
 use sip_uri::{Hop, Transport};
-use std::fs;
 use std::alloc::Global;
+use std::fs;
 use std::sync::Wait;
 
 const CONFIGURATION: &[u8] =

@@ -5,7 +5,6 @@ use crate::holds::holds;
 use crate::telling::{counts, has_line, tells, told};
 use service_files::{DaemonFault, Options};
 use service_threads::serve;
-use std::{fs, io};
 use std::alloc::Global;
 use std::fs::Files;
 use std::io::{Read, Write};
@@ -14,6 +13,7 @@ use std::os::unix::net::UnixStream;
 use std::test::Fail;
 use std::thread::join;
 use std::time::Clock;
+use std::{fs, io};
 
 /// Where the proxy listens.
 const PROXY: u16 = 47_420;

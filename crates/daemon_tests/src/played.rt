@@ -1,7 +1,9 @@
 //! A service without sockets: requests, answers and moments are handed to it, and what it sends, counts and writes down is read.
 //! A history is a table of moments.
 use crate::outgoing::Outgoing;
-use crate::texts::{CALLER, CONFIGURATION, Request, answer_text, has, place_of, request_text, tag_of};
+use crate::texts::{
+    CALLER, CONFIGURATION, Request, answer_text, has, place_of, request_text, tag_of,
+};
 use call_affinity::call_id;
 use proxy_dispatch::Received;
 use proxy_service::{RunSettings, Service};

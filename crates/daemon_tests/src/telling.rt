@@ -1,9 +1,9 @@
 //! What a proxy is told at its control socket, and what its counters are.
 use crate::texts::{behind, has};
 use control_socket::tell;
-use std::thread;
 use std::alloc::Global;
 use std::net::Net;
+use std::thread;
 use std::time::{Clock, Duration};
 
 /// How often a proxy is asked whether something has come about, a tenth of a second apart.

@@ -4,7 +4,6 @@ use crate::holds::holds;
 use crate::telling::{counts, has_line, tells, told, value_in};
 use service_files::{DaemonFault, Options};
 use service_threads::serve;
-use std::{fs, io, thread};
 use std::alloc::Global;
 use std::fs::Files;
 use std::io::{Read, Write};
@@ -13,6 +12,7 @@ use std::os::unix::net::UnixStream;
 use std::test::Fail;
 use std::thread::join;
 use std::time::{Clock, Duration, Instant};
+use std::{fs, io, thread};
 
 /// Where the proxy listens.
 const PROXY: u16 = 47_450;

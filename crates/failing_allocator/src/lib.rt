@@ -5,5 +5,7 @@
 pub mod heap;
 pub mod refusing;
 
-pub use heap::{Attempt, Heap, Play, Repeated, Single, Stateless, refused_always, refused_never, refused_once};
+pub use heap::{
+    Attempt, Heap, Play, Repeated, Single, Stateless, refused_always, refused_never, refused_once,
+};
 pub use refusing::Refusing;

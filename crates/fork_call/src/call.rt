@@ -32,7 +32,10 @@ use call_model::{Cause, Step, Taken, calls_stay_sound};
 use call_state::{CallState, MatchedTransaction, match_response, match_transaction};
 use call_table::{Numbered, Pending};
 use fork_book::Book;
-use fork_model::{events_make_progress, new_rows_are_contacts, others_stay_open, positions_are_bounded, replies_list_all_that_became};
+use fork_model::{
+    events_make_progress, new_rows_are_contacts, others_stay_open, positions_are_bounded,
+    replies_list_all_that_became,
+};
 use proxy_config::Setup;
 use proxy_routing::RequestRejection;
 use sip_text::Message;

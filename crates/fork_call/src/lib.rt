@@ -20,7 +20,10 @@ pub use call::Call;
 pub use call_model::{Cause, Datagram, Step, Taken};
 pub use fault::TakeFault;
 pub use fork_book::Book;
-pub use law::{calls_have_stages, datagrams_go_back_to_the_request, each_datagram_is_right, each_success_goes_up, one_fault_holds, one_final_answer_goes_up, opened_calls_pay_in_order};
+pub use law::{
+    calls_have_stages, datagrams_go_back_to_the_request, each_datagram_is_right,
+    each_success_goes_up, one_fault_holds, one_final_answer_goes_up, opened_calls_pay_in_order,
+};
 pub use opening::{admitted_target, is_openable, open, read_target};
 pub use opening_request::OpeningRequest;
 pub use pending_call::PendingCall;

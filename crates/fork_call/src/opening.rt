@@ -28,7 +28,10 @@ use fork_book::Book;
 use fork_context::{Kind, NewFault};
 use fork_rank::Rules;
 use proxy_config::{Setup, locations_are_targets};
-use proxy_routing::{CandidateTarget, RequestRejection, Unrouted, asks_extension, candidates, have_hops, hop_if_any, is_responsible_for, targets_of, validate_request};
+use proxy_routing::{
+    CandidateTarget, RequestRejection, Unrouted, asks_extension, candidates, have_hops, hop_if_any,
+    is_responsible_for, targets_of, validate_request,
+};
 use sip_build::{opens_dialog, write_own_route};
 use sip_route::{first_route, request_uri};
 use sip_text::Message;

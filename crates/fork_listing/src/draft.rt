@@ -44,14 +44,22 @@ impl ListingPhase {
         ensures { result ≡ phase_after self (line_of line.now) }
     {
         match (self, line) {
-            (ListingPhase::AtFork, ListingLine::Fork(Version::First, count)) => Some(targets_due(*count)),
-            (ListingPhase::AtFork, ListingLine::Fork(version, count)) => Some(ListingPhase::AtPrefer(*version, *count)),
-            (ListingPhase::AtPrefer(Version::Second, count), ListingLine::Prefer(_)) => Some(targets_due(count)),
-            (ListingPhase::AtPrefer(_, count), ListingLine::Prefer(_)) => Some(ListingPhase::AtDepth(count)),
+            (ListingPhase::AtFork, ListingLine::Fork(Version::First, count)) => Some(targets_due(
+                *count,
+            )),
+            (ListingPhase::AtFork, ListingLine::Fork(version, count)) => Some(
+                ListingPhase::AtPrefer(*version, *count),
+            ),
+            (ListingPhase::AtPrefer(Version::Second, count), ListingLine::Prefer(_)) => Some(
+                targets_due(count),
+            ),
+            (ListingPhase::AtPrefer(_, count), ListingLine::Prefer(_)) => Some(
+                ListingPhase::AtDepth(count),
+            ),
             (ListingPhase::AtDepth(count), ListingLine::Depth(_)) => Some(targets_due(count)),
-            (ListingPhase::AtTargets(count), ListingLine::Target(_)) => Some(targets_due(count.saturating_sub(
-                1,
-            ))),
+            (ListingPhase::AtTargets(count), ListingLine::Target(_)) => Some(targets_due(
+                count.saturating_sub(1),
+            )),
             (ListingPhase::AtRanks, ListingLine::Rank(_)) => Some(ListingPhase::AtRanks),
             (ListingPhase::AtRanks, ListingLine::Final(last)) => Some(ListingPhase::AtEnd(*last)),
             _ => None,

@@ -7,7 +7,10 @@ ghost use Rattle.fork_listing.specs.Line.{most_arrival};
 ghost use Rattle.fork_listing.specs.Reading.{word_of, read_version, read_status, read_parent, may_be_assumed, stored_as, read_stored, read_end, read_count, read_target, read_ranked, read_final, read_rest, read_line};
 ghost use Rattle.fork_listing.specs.inner.LineView.{line_of};
 
-use fork_rank::{Depth, MOST_TARGETS, Preferred, Status, read_depth, read_preferred, read_small_number, read_small_number_before};
+use fork_rank::{
+    Depth, MOST_TARGETS, Preferred, Status, read_depth, read_preferred, read_small_number,
+    read_small_number_before,
+};
 use fork_tree::End;
 use sip_lex::{cut_at, read_plain_number};
 

@@ -69,7 +69,10 @@ fn append_end<A: Allocator>(text: &mut Vec<u8, A>, end: End) -> Result<(), Alloc
 }
 
 /// Appends the number of a branch and that of its parent.
-fn append_parentage<A: Allocator>(text: &mut Vec<u8, A>, target: &ListedTarget) -> Result<(), AllocError>
+fn append_parentage<A: Allocator>(
+    text: &mut Vec<u8, A>,
+    target: &ListedTarget,
+) -> Result<(), AllocError>
     ensures { OnOk result (text.new.items ≡ text.old.items ++ (decimal target.now.number ++ 32 ∷ (number_text target.now.parent ++ 32 ∷ []))) }
 {
     append_number_before(text, u64::from(target.number))?;
@@ -77,7 +80,10 @@ fn append_parentage<A: Allocator>(text: &mut Vec<u8, A>, target: &ListedTarget) 
     append(text, b" ")
 }
 
-fn append_target<A: Allocator>(text: &mut Vec<u8, A>, target: &ListedTarget) -> Result<(), AllocError>
+fn append_target<A: Allocator>(
+    text: &mut Vec<u8, A>,
+    target: &ListedTarget,
+) -> Result<(), AllocError>
     ensures { OnOk result (text.new.items ≡ text.old.items ++ ended (line_text (TargetLine target.now))) }
 {
     append(text, b"target ")?;

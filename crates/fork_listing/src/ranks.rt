@@ -127,7 +127,11 @@ pub fn stored_in(target: &ListedTarget) -> Option<Ranked>
 }
 
 /// Whether branch n has a stored answer, and its number is none of these.
-fn is_unlisted<A: Allocator>(targets: &[ListedTarget], numbers: &BTreeSet<usize, A>, n: usize) -> bool
+fn is_unlisted<A: Allocator>(
+    targets: &[ListedTarget],
+    numbers: &BTreeSet<usize, A>,
+    n: usize,
+) -> bool
     ensures { MatchBool result (IsCounted targets.now numbers.now n → ⊥) (IsCounted targets.now numbers.now n) }
 {
     match targets.get(n) {

@@ -99,7 +99,11 @@ fn follows(targets: &[ListedTarget], before: Option<u16>, parent: Option<u16>) -
     }
 }
 
-fn follows_target(targets: &[ListedTarget], before: Option<ListedTarget>, parent: Option<u16>) -> bool
+fn follows_target(
+    targets: &[ListedTarget],
+    before: Option<ListedTarget>,
+    parent: Option<u16>,
+) -> bool
     ensures { IsTrue result ↔ FollowsTarget targets.now before parent }
 {
     match before {

@@ -11,7 +11,10 @@ ghost use Rattle.fork_program.specs.Reading.{word_of, read_kind, read_named, rea
 ghost use Rattle.fork_program.specs.inner.LineView.{line_of};
 
 use fork_context::Kind;
-use fork_rank::{Depth, Preferred, RingStatus, Status, read_depth, read_preferred, read_small_number, read_small_number_before};
+use fork_rank::{
+    Depth, Preferred, RingStatus, Status, read_depth, read_preferred, read_small_number,
+    read_small_number_before,
+};
 use sip_lex::cut_at;
 
 /// A q is in thousandths, and at most one.

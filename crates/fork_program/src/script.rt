@@ -45,12 +45,17 @@ impl ScriptPhase {
             (ScriptPhase::AtKind, ScriptLine::Kind(_)) => Some(ScriptPhase::AtPrefer),
             (ScriptPhase::AtKind, _) => None,
             (ScriptPhase::AtPrefer, ScriptLine::Prefer(_)) => Some(ScriptPhase::AtDepth),
-            (ScriptPhase::AtPrefer | ScriptPhase::AtDepth, ScriptLine::Depth(_)) => Some(ScriptPhase::AtTargets),
-            (ScriptPhase::AtPrefer | ScriptPhase::AtDepth | ScriptPhase::AtTargets, ScriptLine::Target(_, _)) => Some(
+            (ScriptPhase::AtPrefer | ScriptPhase::AtDepth, ScriptLine::Depth(_)) => Some(
                 ScriptPhase::AtTargets,
             ),
-            (ScriptPhase::AtAnswer, ScriptLine::Contact(_, _) | ScriptLine::Other(_, _) | ScriptLine::Challenge { .. }) =>
-                Some(ScriptPhase::AtAnswer),
+            (
+                ScriptPhase::AtPrefer | ScriptPhase::AtDepth | ScriptPhase::AtTargets,
+                ScriptLine::Target(_, _),
+            ) => Some(ScriptPhase::AtTargets),
+            (
+                ScriptPhase::AtAnswer,
+                ScriptLine::Contact(_, _) | ScriptLine::Other(_, _) | ScriptLine::Challenge { .. },
+            ) => Some(ScriptPhase::AtAnswer),
             (_, ScriptLine::Answer(_, _)) => Some(ScriptPhase::AtAnswer),
             (
                 _,
@@ -223,7 +228,10 @@ impl<A: Allocator + Clone> Script<A> {
             ScriptLine::Kind(kind) => self.set_kind(kind),
             ScriptLine::Prefer(preferred) => self.set_rules(with_preferred(self.rules, preferred)),
             ScriptLine::Depth(depth) => self.set_rules(with_depth(self.rules, depth)),
-            ScriptLine::Target(q, name) => self.add_target(Target::new(name.to_vec(alloc.clone()?)?, q))?,
+            ScriptLine::Target(q, name) => self.add_target(Target::new(
+                name.to_vec(alloc.clone()?)?,
+                q,
+            ))?,
             ScriptLine::Ring(n, status) => self.add_event(Event::Ring(n, status))?,
             ScriptLine::Answer(n, status) => self.add_event(Event::Answer(
                 n,

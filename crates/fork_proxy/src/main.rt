@@ -13,13 +13,13 @@ use fork_program::{Fault, ProgFault, read_input};
 use log::Log;
 use proxy_config::Malformed;
 use serve_command::{ServeFault, parse_serve_args, serve};
-use std::{env, io};
 use std::alloc::{AllocError, Global};
 use std::io::{ErrorKind, Print, Read, Write};
 use std::net::Net;
 use std::process::ExitCode;
 use std::sync::Wait;
 use std::thread::Threads;
+use std::{env, io};
 use thiserror::Error;
 
 /// Why the program ends without what it was asked for, with the words that it prints.

@@ -1,7 +1,10 @@
 //! Fields and the lines of the rules, read and written.
 use crate::bytes::is;
 use crate::holds::holds;
-use fork_rank::{Rules, append, append_depth, append_list, append_preferred, read_depth, read_preferred, read_small_number, read_small_number_before, with_depth, with_preferred};
+use fork_rank::{
+    Rules, append, append_depth, append_list, append_preferred, read_depth, read_preferred,
+    read_small_number, read_small_number_before, with_depth, with_preferred,
+};
 use std::alloc::Global;
 
 /// The number before a space, where the rest is this.
@@ -86,7 +89,11 @@ fn fields_are_read(rt: HostRuntime) {
         read_small_number(b"500", 499).is_none(),
         "a number over its limit",
     );
-    holds(&rt, read_small_number(b"07", 499).is_none(), "a leading zero");
+    holds(
+        &rt,
+        read_small_number(b"07", 499).is_none(),
+        "a leading zero",
+    );
     holds(
         &rt,
         number_before("1000 a b", "a b") == Some(1000),

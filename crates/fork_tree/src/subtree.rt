@@ -43,7 +43,11 @@ impl<A: Allocator> Node<A> {
 }
 
 /// The node of row n, by its chain of parents.
-pub(crate) fn node_of<'a, A: Allocator>(root: &'a Level<A>, places: &[NodePlace], n: u16) -> &'a Node<A>
+pub(crate) fn node_of<'a, A: Allocator>(
+    root: &'a Level<A>,
+    places: &[NodePlace],
+    n: u16,
+) -> &'a Node<A>
     requires known { n < length places.now }
     requires older { AreOlder places.now }
     requires placed { IsPlaced places.now root.now }

@@ -224,7 +224,11 @@ impl<A: Allocator> ForkTree<A> {
 }
 
 /// Adds the place of each new row under this row, or at the top.
-fn add_places<A: Allocator>(places: &mut Vec<NodePlace, A>, parent: Option<u16>, new_rows: &[NewRow])
+fn add_places<A: Allocator>(
+    places: &mut Vec<NodePlace, A>,
+    parent: Option<u16>,
+    new_rows: &[NewRow],
+)
     requires room { vec_len places.old + length new_rows.now ≤ vec_capacity places.old }
     ensures items { places.new.items ≡ places.old.items ++ map (place_in parent) new_rows.now }
     ensures capacity { vec_capacity places.new ≡ vec_capacity places.old }

@@ -6,7 +6,6 @@ use control_socket::tell;
 use metrics::PageSockets;
 use service_files::{DaemonFault, Options, ProxyFiles};
 use service_threads::{check_config, serve};
-use std::{env, thread};
 use std::alloc::{AllocError, Global};
 use std::io::{Eprint, Print};
 use std::net::Net;
@@ -14,6 +13,7 @@ use std::process::ExitCode;
 use std::sync::Wait;
 use std::thread::Threads;
 use std::time::{Clock, Duration};
+use std::{env, thread};
 
 /// The exit status where the words ask for nothing.
 const USAGE: u8 = 2;

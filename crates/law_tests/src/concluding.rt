@@ -8,8 +8,14 @@ ghost use Rattle.law_tests.specs.Played.{EndsRight, HasEnded, IsPlayed, PlayedCa
 use crate::playing::{Coming, come, holds, is_carried, is_ended, open, pump_to, read_message};
 use crate::port::Awaiting;
 use call_messages::Sent;
-use call_messages::one_target::{ACK_SENT, CALLER, FAULT_UP, INVITE, INVITE_SENT, NOT_FOUND, NOT_FOUND_UP, RINGING, RINGING_UP, SETUP, TARGET, TRYING};
-use fork_call::{Call, Port, Setup, calls_have_stages, each_datagram_is_right, each_success_goes_up, is_openable, one_final_answer_goes_up, opened_calls_pay_in_order};
+use call_messages::one_target::{
+    ACK_SENT, CALLER, FAULT_UP, INVITE, INVITE_SENT, NOT_FOUND, NOT_FOUND_UP, RINGING, RINGING_UP,
+    SETUP, TARGET, TRYING,
+};
+use fork_call::{
+    Call, Port, Setup, calls_have_stages, each_datagram_is_right, each_success_goes_up,
+    is_openable, one_final_answer_goes_up, opened_calls_pay_in_order,
+};
 use sip_text::Message;
 use std::alloc::Global;
 

@@ -39,10 +39,13 @@ impl SetupPhase {
             (SetupPhase::AtInstance, SetupLine::Instance(_)) => Some(SetupPhase::AtDomain),
             (SetupPhase::AtDomain, SetupLine::Domain(_)) => Some(SetupPhase::AtPrefer),
             (SetupPhase::AtPrefer, SetupLine::Prefer(_)) => Some(SetupPhase::AtDepth),
-            (SetupPhase::AtPrefer | SetupPhase::AtDepth, SetupLine::Depth(_)) => Some(SetupPhase::AtLocations),
-            (SetupPhase::AtPrefer | SetupPhase::AtDepth | SetupPhase::AtLocations, SetupLine::Location(_, _, _)) => {
-                Some(SetupPhase::AtLocations)
-            }
+            (SetupPhase::AtPrefer | SetupPhase::AtDepth, SetupLine::Depth(_)) => Some(
+                SetupPhase::AtLocations,
+            ),
+            (
+                SetupPhase::AtPrefer | SetupPhase::AtDepth | SetupPhase::AtLocations,
+                SetupLine::Location(_, _, _),
+            ) => { Some(SetupPhase::AtLocations) }
             _ => None,
         }
     }
@@ -51,7 +54,10 @@ impl SetupPhase {
     fn is_whole(self) -> bool
         ensures { result ≡ is_whole self }
     {
-        !matches!(self, SetupPhase::AtOwn | SetupPhase::AtInstance | SetupPhase::AtDomain)
+        !matches!(
+            self,
+            SetupPhase::AtOwn | SetupPhase::AtInstance | SetupPhase::AtDomain
+        )
     }
 }
 

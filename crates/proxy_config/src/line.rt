@@ -8,7 +8,9 @@ ghost use Rattle.proxy_config.specs.Line.{is_user, is_visible, most_instance, mo
 ghost use Rattle.proxy_config.specs.LineReading.{octet_before, read_octets, read_own, read_location, read_rest, read_line, word_of};
 ghost use Rattle.proxy_config.specs.LineView.{line_of};
 
-use fork_rank::{Depth, Preferred, read_depth, read_preferred, read_small_number, read_small_number_before};
+use fork_rank::{
+    Depth, Preferred, read_depth, read_preferred, read_small_number, read_small_number_before,
+};
 use sip_lex::{cut_at, read_plain_number};
 use sip_uri::is_host;
 use sip_via::Own;

@@ -73,7 +73,10 @@ pub(crate) fn is_formed<A: Allocator>(
     requires fault { fault ≡ fault_if_refused (target_uri message.now) }
     ensures { result ≡ is_formed message.now }
 {
-    has_cookie(message) && is_max_forwards_readable(hops) && routes_are_readable(message) && is_uri_or_other(fault)
+    has_cookie(message)
+        && is_max_forwards_readable(hops)
+        && routes_are_readable(message)
+        && is_uri_or_other(fault)
 }
 
 /// Whether Max-Forwards is 0: no further proxy may pass the request on.

@@ -18,5 +18,7 @@ pub use admission::validate_request;
 pub use checks::asks_extension;
 pub use fault::RequestRejection;
 pub use law::taking_own_routes_keeps_the_rest;
-pub use targets::{CandidateTarget, candidates, have_hops, hop_by, hop_if_any, is_responsible_for, targets_of};
+pub use targets::{
+    CandidateTarget, candidates, have_hops, hop_by, hop_if_any, is_responsible_for, targets_of,
+};
 pub use unrouted::Unrouted;

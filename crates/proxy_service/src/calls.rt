@@ -11,8 +11,8 @@ use crate::walk::Walk;
 use call_table::{Schedule, Shelf};
 use fork_call::Call;
 use std::alloc::{AllocError, Allocator, Global};
-use std::sync::{Mutex, Wait};
 use std::sync::atomic::{AtomicU64, Ordering};
+use std::sync::{Mutex, Wait};
 
 /// How many calls are looked at before the time is read anew.
 const MOST_LOOKED: u32 = 4_096;

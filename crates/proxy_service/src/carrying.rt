@@ -13,9 +13,9 @@ use crate::targets::TargetSet;
 use call_laws::calls_that_are_over_are_quiet;
 use call_table::Removal;
 use fork_call::{Call, Port, carry};
-use std::thread;
 use std::alloc::{AllocError, Allocator};
 use std::sync::Wait;
+use std::thread;
 use std::time::{Clock, Duration, SystemTime};
 
 /// How many milliseconds pass until a call is looked at again that another thread looked at.

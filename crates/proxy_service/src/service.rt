@@ -7,8 +7,8 @@ use fork_call::Setup;
 use metrics::{Counts, Gauges};
 use service_admission::{Lifetime, Quota, ServiceState};
 use service_files::{DaemonFault, JournalQueue};
-use std::mem;
 use std::alloc::{AllocError, Allocator, Global};
+use std::mem;
 use std::sync::{RwLock, Wait};
 
 /// How many milliseconds a second has.

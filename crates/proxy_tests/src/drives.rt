@@ -339,7 +339,11 @@ fn asked(alloc: Global, words: &[&str]) -> Result<Option<ProgramCommand>, AllocE
 #[test]
 fn arguments_ask_for_commands(rt: HostRuntime) -> Result<(), Fail> {
     let drive = asked(rt.alloc(), &["forkproxy", "drive"])?;
-    holds(&rt, drive == Some(ProgramCommand::Drive), "drive runs workers");
+    holds(
+        &rt,
+        drive == Some(ProgramCommand::Drive),
+        "drive runs workers",
+    );
     let alone = asked(rt.alloc(), &["forkproxy"])?;
     holds(
         &rt,
@@ -371,7 +375,12 @@ fn what_is_asked_for_is_appended(rt: HostRuntime) -> Result<(), Fail> {
     let mut out = Vec::new(rt.alloc());
     let status = ran(&rt, rt.alloc(), ProgramCommand::Drive, &mut out)?;
     holds(&rt, status == 0, "a run ends with 0");
-    let status = ran(&rt, rt.alloc(), ProgramCommand::Alone(TextCommand::Check), &mut out)?;
+    let status = ran(
+        &rt,
+        rt.alloc(),
+        ProgramCommand::Alone(TextCommand::Check),
+        &mut out,
+    )?;
     holds(&rt, status == 4, "a check of a script ends with 4");
     holds(
         &rt,
@@ -401,7 +410,13 @@ fn what_is_asked_for_goes_from_an_input_to_an_output(rt: HostRuntime) -> Result<
     let script = b"kind INVITE\ntarget 1000 a\nworker\ncancel\n";
     let status = passed_on(&rt, rt.alloc(), ProgramCommand::Drive, script, &mut out)?;
     holds(&rt, status == 0, "a run ends with 0");
-    let refused = passed_on(&rt, rt.alloc(), ProgramCommand::Drive, b"kind BYE\n", &mut out);
+    let refused = passed_on(
+        &rt,
+        rt.alloc(),
+        ProgramCommand::Drive,
+        b"kind BYE\n",
+        &mut out,
+    );
     holds(
         &rt,
         refused == Err(Fault::Text(ProgFault::Line(1))),

@@ -105,7 +105,12 @@ fn holds_printed<R: Threads + Wait + Sync + Abort>(
 
 #[test]
 fn examples_print_what_stands_beside_them(rt: HostRuntime) -> Result<(), Fail> {
-    holds_printed(&rt, rt.alloc(), ProgramCommand::Alone(TextCommand::Replay), &REPLAYS)?;
+    holds_printed(
+        &rt,
+        rt.alloc(),
+        ProgramCommand::Alone(TextCommand::Replay),
+        &REPLAYS,
+    )?;
     holds_printed(&rt, rt.alloc(), ProgramCommand::Drive, &RUNS)?;
     Ok(())
 }

@@ -3,7 +3,7 @@ use crate::holds::{holds, holds_of};
 use fork_engine::ProgramCommand;
 use fork_program::{Fault, MOST_TEXT, TextCommand, read_input};
 use std::alloc::Global;
-use std::io::{ErrorKind, Read, Write, self};
+use std::io::{self, ErrorKind, Read, Write};
 use std::sync::Wait;
 use std::thread::Threads;
 
@@ -91,7 +91,12 @@ fn replayed<R: Threads + Wait + Sync>(
         most,
         fails: writing,
     };
-    let status = match ProgramCommand::Alone(TextCommand::Replay).answer(rt, alloc, &mut input, &mut output) {
+    let status = match ProgramCommand::Alone(TextCommand::Replay).answer(
+        rt,
+        alloc,
+        &mut input,
+        &mut output,
+    ) {
         Ok(status) => status,
         Err(fault) => fault.status(),
     };

@@ -5,7 +5,7 @@ use failing_allocator::Refusing;
 use fork_engine::ProgramCommand;
 use fork_program::TextCommand;
 use std::alloc::Global;
-use std::io::{Write, self};
+use std::io::{self, Write};
 use std::process::Abort;
 use std::sync::Wait;
 use std::thread::Threads;

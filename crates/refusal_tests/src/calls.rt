@@ -4,10 +4,16 @@ use crate::fork_texts::FORK_SETUP;
 use crate::plays::{calls, plays};
 use crate::port::Comparing;
 use crate::sources::{Alloc, read};
+use call_messages::one_target::{
+    ACK_SENT, CALLER, CANCEL, CANCEL_OK, CANCEL_SENT, FAULT_UP, INVITE, INVITE_SENT, OPTIONS,
+    OPTIONS_FAULT_UP, OPTIONS_NOT_FOUND, OPTIONS_NOT_FOUND_OF_FIVE, OPTIONS_NOT_FOUND_UP,
+    OPTIONS_SENT, RINGING, RINGING_UP, SETUP, TARGET, TERMINATED, TERMINATED_UP, TRYING,
+};
 use call_messages::{Sent, is_sent};
-use call_messages::one_target::{ACK_SENT, CALLER, CANCEL, CANCEL_OK, CANCEL_SENT, FAULT_UP, INVITE, INVITE_SENT, OPTIONS, OPTIONS_FAULT_UP, OPTIONS_NOT_FOUND, OPTIONS_NOT_FOUND_OF_FIVE, OPTIONS_NOT_FOUND_UP, OPTIONS_SENT, RINGING, RINGING_UP, SETUP, TARGET, TERMINATED, TERMINATED_UP, TRYING};
 use failing_allocator::{Attempt, Heap, Play, Repeated, Stateless};
-use fork_call::{Call, Cause, RequestRejection, Setup, SetupFault, Step, TakeFault, Taken, carry, is_openable};
+use fork_call::{
+    Call, Cause, RequestRejection, Setup, SetupFault, Step, TakeFault, Taken, carry, is_openable,
+};
 use fork_context::Event;
 use sip_text::Message;
 use sip_uri::Hop;

@@ -3,7 +3,10 @@ use crate::answers::{Judge, answered, discard, judged};
 use crate::forks::{Aims, EventList, events, targets};
 use crate::plays::{calls, plays};
 use crate::sources::Alloc;
-use crate::texts::{BEST_LISTING, BEST_SCRIPT, CHALLENGED_LISTING, CHALLENGED_SCRIPT, LATE_LISTING, LATE_SCRIPT, MOVED_TWICE, REDIRECTED_LISTING, REDIRECTED_SCRIPT};
+use crate::texts::{
+    BEST_LISTING, BEST_SCRIPT, CHALLENGED_LISTING, CHALLENGED_SCRIPT, LATE_LISTING, LATE_SCRIPT,
+    MOVED_TWICE, REDIRECTED_LISTING, REDIRECTED_SCRIPT,
+};
 use failing_allocator::{Attempt, Heap, Play, Repeated, Stateless};
 use fork_context::{Challenge, Choice, Context, Event, Kind, NewFault, PostError, Reply, Up};
 use fork_listing::{ListFault, listing};

@@ -1,9 +1,13 @@
 //! Messages that are made of others while memory is refused.
 use crate::answers::{discard, judged};
 use crate::hops::has_hops;
-use crate::made_texts::{ACK, CANCEL, FORWARDED, LONG_MARKED, MARKED, STRIPPED, TRYING, UPWARD_WITH_ANOTHER};
+use crate::made_texts::{
+    ACK, CANCEL, FORWARDED, LONG_MARKED, MARKED, STRIPPED, TRYING, UPWARD_WITH_ANOTHER,
+};
 use crate::plays::{calls, plays};
-use crate::sources::{Alloc, BRANCH, LONG, MOVED, OWN, REQUEST, ROUTED, SOURCE, Wanted, is_written_as, read, target};
+use crate::sources::{
+    Alloc, BRANCH, LONG, MOVED, OWN, REQUEST, ROUTED, SOURCE, Wanted, is_written_as, read, target,
+};
 use failing_allocator::{Attempt, Heap, Play, Repeated, Stateless};
 use sip_build::OwnStatus;
 use sip_builders::{ack_of, cancel_of, forward, generated, mark_received, strip_route, upward};

@@ -2,7 +2,10 @@
 use crate::answers::{Judge, judged};
 use crate::plays::calls;
 use crate::sources::Alloc;
-use crate::texts::{BEST_LISTING, BEST_PRINTED, BEST_SCRIPT, CHALLENGED_PRINTED, CHALLENGED_SCRIPT, MOVED_PRINTED, MOVED_SCRIPT, ONE_LISTING, WRONG_LISTING};
+use crate::texts::{
+    BEST_LISTING, BEST_PRINTED, BEST_SCRIPT, CHALLENGED_PRINTED, CHALLENGED_SCRIPT, MOVED_PRINTED,
+    MOVED_SCRIPT, ONE_LISTING, WRONG_LISTING,
+};
 use failing_allocator::{Attempt, Heap, Stateless};
 use fork_program::{Fault, ProgFault, TextCommand, check_text, read_input, replay_text};
 

@@ -1,11 +1,17 @@
 //! Texts that are appended while memory is refused.
 use crate::answers::discard;
 use crate::hops::has_hops;
-use crate::made_texts::{BAD_REQUEST, BRANCH_TEXT, FORWARDED, FORWARDED_ACK, FORWARDED_CANCEL, OWN_ROUTE, REQUEST_KEY, REQUEST_URI, TARGET_KEY, UPWARD};
+use crate::made_texts::{
+    BAD_REQUEST, BRANCH_TEXT, FORWARDED, FORWARDED_ACK, FORWARDED_CANCEL, OWN_ROUTE, REQUEST_KEY,
+    REQUEST_URI, TARGET_KEY, UPWARD,
+};
 use crate::plays::plays;
 use crate::sources::{Alloc, BRANCH, MOVED, OWN, REQUEST, read, target};
 use failing_allocator::{Attempt, Heap, Play, Repeated};
-use sip_build::{OwnStatus, write_forwarded, write_forwarded_ack, write_forwarded_cancel, write_forwarded_response, write_own_response, write_own_route};
+use sip_build::{
+    OwnStatus, write_forwarded, write_forwarded_ack, write_forwarded_cancel,
+    write_forwarded_response, write_own_response, write_own_route,
+};
 use sip_route::append_request_key;
 use sip_text::{Message, StartLine};
 use sip_uri::SipUri;

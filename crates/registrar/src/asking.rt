@@ -17,7 +17,10 @@ use crate::contact::ContactTerms;
 use crate::contacts::{Contacts, contacts_of};
 use crate::expirations::AskedExpirations;
 use crate::source::Source;
-use authentication::{Challenger, Domain, OwnAnswer, RealmSecrets, Standing, is_of_domain, party_uri, standing_of, turned_away};
+use authentication::{
+    Challenger, Domain, OwnAnswer, RealmSecrets, Standing, is_of_domain, party_uri, standing_of,
+    turned_away,
+};
 use sip_build::OwnStatus;
 use sip_route::{append_request_key, first_value};
 use sip_text::{Message, header_values_are_values};

@@ -13,7 +13,9 @@ use crate::asked::AskedContact;
 use crate::expirations::AskedExpirations;
 use crate::transport::transport_of;
 use crate::weight::q_of;
-use authentication::{ContactParams, are_contact_params, form_of, is_named, param_named, param_value, port_of_uri};
+use authentication::{
+    ContactParams, are_contact_params, form_of, is_named, param_named, param_value, port_of_uri,
+};
 use sip_lex::trim;
 use sip_uri::{Hop, SipUri, Transport, UriFault};
 use sip_via::is_address;

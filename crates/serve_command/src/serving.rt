@@ -17,11 +17,11 @@ use call_table::Inbox;
 use fork_call::Setup;
 use log::Log;
 use sip_uri::Hop;
-use std::thread;
 use std::alloc::Global;
 use std::io::Print;
 use std::net::Net;
 use std::sync::Wait;
+use std::thread;
 use std::thread::Threads;
 
 /// How many bytes a configuration has at most.

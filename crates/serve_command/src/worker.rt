@@ -61,7 +61,11 @@ impl<A: Allocator + Clone> TurnProxy<A> {
     /// # Errors
     ///
     /// Only where the allocator refuses.
-    pub(crate) fn new(alloc: A, setup: Setup<A>, socket: TurnSocket) -> Result<TurnProxy<A>, AllocError> {
+    pub(crate) fn new(
+        alloc: A,
+        setup: Setup<A>,
+        socket: TurnSocket,
+    ) -> Result<TurnProxy<A>, AllocError> {
         let calls = Shelf::new(alloc.clone()?)?;
         let schedule = Schedule::new(alloc.clone()?)?;
         Ok(TurnProxy {

@@ -26,7 +26,10 @@ pub(crate) fn forget_unspent<A: Allocator>(
 }
 
 /// What an address has spent, if it is kept.
-fn kept_at<A: Allocator>(buckets: &BTreeMap<u32, TokenBucket, A>, address: u32) -> Option<TokenBucket>
+fn kept_at<A: Allocator>(
+    buckets: &BTreeMap<u32, TokenBucket, A>,
+    address: u32,
+) -> Option<TokenBucket>
     ensures { result ≡ kept_at buckets.now.entries address }
 {
     buckets.get(&address).copied()

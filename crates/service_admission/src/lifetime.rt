@@ -85,7 +85,8 @@ impl Lifetime {
     }
 
     pub fn end(&self) {
-        self.state.store(ServiceState::Ended.code(), Ordering::SeqCst);
+        self.state
+            .store(ServiceState::Ended.code(), Ordering::SeqCst);
     }
 
     /// How the service drains, if it does.

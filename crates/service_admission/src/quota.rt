@@ -7,8 +7,8 @@ ghost use Rattle.service_admission.specs.Quota.{limit};
 use crate::lifetime::Lifetime;
 use crate::places::CallQuota;
 use proxy_dispatch::{Admission, Opener};
-use std::sync::{Mutex, Wait};
 use std::sync::atomic::{AtomicU64, Ordering};
+use std::sync::{Mutex, Wait};
 
 /// For how long no call is opened behind a refusal of memory, in milliseconds.
 const CLOSED: u64 = 1_000;

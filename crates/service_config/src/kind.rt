@@ -44,7 +44,10 @@ impl LineKind {
     fn may_repeat(self) -> bool
         ensures { result ≡ may_repeat self }
     {
-        matches!(self, LineKind::Trust | LineKind::Gateway | LineKind::Location)
+        matches!(
+            self,
+            LineKind::Trust | LineKind::Gateway | LineKind::Location
+        )
     }
 
     /// Whether it is the domain, or stands behind it.

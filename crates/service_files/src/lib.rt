@@ -14,9 +14,13 @@ mod setup;
 mod socket;
 mod system;
 
-pub use fault::{DaemonFault, configuration_fault, control_fault, journal_fault, metrics_fault, socket_fault};
+pub use fault::{
+    DaemonFault, configuration_fault, control_fault, journal_fault, metrics_fault, socket_fault,
+};
 pub use files::ProxyFiles;
-pub use memory::{calls_within, group_limit, memory_total, most_calls_here, resident_bytes, resident_pages};
+pub use memory::{
+    calls_within, group_limit, memory_total, most_calls_here, resident_bytes, resident_pages,
+};
 pub use options::Options;
 pub use queue::{Batch, JournalQueue};
 pub use setup::{Identity, UnobeyedLine, read_setup, read_text};

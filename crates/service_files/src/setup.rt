@@ -132,4 +132,3 @@ pub fn read_setup<R: ProxyFiles>(
     };
     read_text(alloc, text.as_slice(), number)
 }
-

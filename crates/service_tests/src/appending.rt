@@ -1,11 +1,11 @@
 //! The file to which each call is written at its end.
 use crate::holds::holds;
 use service_files::ProxyFiles;
-use std::{fs, io};
 use std::alloc::Global;
 use std::fs::Files;
 use std::io::{PipeReader, PipeWriter, Read};
 use std::os::fd::AsRawFd;
+use std::{fs, io};
 
 /// A file in the folder in which the test runs.
 const FILE: &str = "daemon_parts_test_journal";

@@ -22,7 +22,11 @@ const REQUESTS: [([&str; 2], State, Option<ControlCommand>); 12] = [
     (["", ""], State::Open, None),
     (["sto", "p 3"], State::Open, None),
     (["sto", "p 3\n"], State::Open, Some(ControlCommand::Stop(3))),
-    (["stop 3\r\n", "00\n"], State::Open, Some(ControlCommand::Stop(3))),
+    (
+        ["stop 3\r\n", "00\n"],
+        State::Open,
+        Some(ControlCommand::Stop(3)),
+    ),
     (["stop 3", ""], State::Closed, Some(ControlCommand::Stop(3))),
     (["stop 3\n", ""], State::Late, Some(ControlCommand::Stop(3))),
     (["stop 3", ""], State::Late, UNKNOWN),

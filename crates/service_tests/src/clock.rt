@@ -1,8 +1,8 @@
 //! A watch shows the time, and never an earlier one.
 use crate::holds::holds;
 use call_table::{Epoch, ThreadClock};
-use std::thread;
 use std::test::Fail;
+use std::thread;
 use std::time::Duration;
 
 /// How many times the time is read.

@@ -22,7 +22,10 @@ const LINES: [(&str, ControlCommand); 24] = [
     ("calls 256", ControlCommand::Calls(256)),
     ("calls ", ControlCommand::Unknown),
     ("calls 0256", ControlCommand::Unknown),
-    ("calls 18446744073709551615", ControlCommand::Calls(u64::MAX)),
+    (
+        "calls 18446744073709551615",
+        ControlCommand::Calls(u64::MAX),
+    ),
     ("calls 18446744073709551616", ControlCommand::Unknown),
     ("call 0", ControlCommand::Call(0)),
     ("call 17", ControlCommand::Call(17)),

@@ -1,7 +1,6 @@
 //! A control socket answers lines until the end, whatever other clients do.
 use crate::holds::holds;
 use control_socket::{ControlHandler, listen, tell};
-use std::{fs, io};
 use std::alloc::Global;
 use std::fs::Files;
 use std::io::{ErrorKind, Read, Write};
@@ -12,6 +11,7 @@ use std::sync::atomic::{AtomicU64, Ordering};
 use std::test::Fail;
 use std::thread::join;
 use std::time::{Clock, Duration, Instant};
+use std::{fs, io};
 
 /// What stands in `state` before the end was asked for.
 const SERVING: u64 = 1_000_000;

@@ -1,6 +1,9 @@
 //! Counters and histograms as text.
 use crate::holds::holds;
-use metrics::{Family, Histogram, HistogramClass, Labelled, Metric, MetricKind, append_family, append_histogram, append_metrics, class_of};
+use metrics::{
+    Family, Histogram, HistogramClass, Labelled, Metric, MetricKind, append_family,
+    append_histogram, append_metrics, class_of,
+};
 use std::alloc::Global;
 
 const METRICS: [Metric<'static>; 2] = [

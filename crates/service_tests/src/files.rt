@@ -1,13 +1,13 @@
 //! The files of a service: what is read, and the control socket.
 use crate::holds::holds;
 use service_files::ProxyFiles;
-use std::{fs, io};
 use std::alloc::Global;
 use std::fs::Files;
 use std::io::{ErrorKind, PipeReader, PipeWriter};
 use std::os::fd::AsRawFd;
 use std::os::unix::fs::PermissionsExt;
 use std::os::unix::net::UnixListener;
+use std::{fs, io};
 
 /// A file in the folder in which the test runs.
 const FILE: &str = "daemon_parts_test_file";

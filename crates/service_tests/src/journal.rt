@@ -1,6 +1,9 @@
 //! What is written down of a call.
 use crate::holds::holds;
-use call_journal::{BranchTimes, CallRecord, CallShown, Note, NotedEvent, append_branch_line, append_call, append_call_line, failed_calls_are_listed_right, heads_are_lines, reasons_are_right, since};
+use call_journal::{
+    BranchTimes, CallRecord, CallShown, Note, NotedEvent, append_branch_line, append_call,
+    append_call_line, failed_calls_are_listed_right, heads_are_lines, reasons_are_right, since,
+};
 use fork_context::{Answer, Context, Event, Kind, Target};
 use fork_rank::{RingStatus, Rules, Status};
 use std::alloc::Global;

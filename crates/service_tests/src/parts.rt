@@ -3,14 +3,18 @@ use crate::holds::holds;
 use metrics::{Counts, Gauges};
 use proxy_service::Marks;
 use service_admission::{CallQuota, is_keep_alive};
-use service_files::{DaemonFault, Identity, ProxyFiles, SendOutcome, Socket, UnobeyedLine, calls_within, configuration_fault, control_fault, group_limit, journal_fault, memory_total, metrics_fault, most_calls_here, read_setup, read_text, resident_bytes, resident_pages, socket_fault};
+use service_files::{
+    DaemonFault, Identity, ProxyFiles, SendOutcome, Socket, UnobeyedLine, calls_within,
+    configuration_fault, control_fault, group_limit, journal_fault, memory_total, metrics_fault,
+    most_calls_here, read_setup, read_text, resident_bytes, resident_pages, socket_fault,
+};
 use sip_uri::{Hop, Transport};
 use sip_via::Own;
-use std::{fs, io};
 use std::alloc::{AllocError, Global};
 use std::io::ErrorKind;
 use std::net::Net;
 use std::test::Fail;
+use std::{fs, io};
 
 const CONFIGURATION: &[u8] = b"own 127.0.0.1 47430\ninstance 7\ndomain example.com\n";
 

@@ -1,10 +1,10 @@
 //! A schedule gives each call whose deadline has come, once, and wakes who sleeps.
 use crate::holds::holds;
 use call_table::{Epoch, Schedule, ThreadClock};
-use std::thread;
 use std::alloc::Global;
 use std::sync::Wait;
 use std::test::Fail;
+use std::thread;
 use std::thread::join;
 use std::time::{Clock, Duration};
 

@@ -1,8 +1,8 @@
 //! The counters as a page of HTTP, whatever other scrapers do.
 use crate::holds::holds;
 use metrics::{MetricsSource, PageKind, PageSockets, answer_scrapers, page_kind};
-use std::io;
 use std::alloc::Global;
+use std::io;
 use std::io::{ErrorKind, Read, Write};
 use std::net::{Net, Shutdown, TcpListener, TcpStream};
 use std::os::fd::OwnedFd;

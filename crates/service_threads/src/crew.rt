@@ -6,10 +6,10 @@ ghost use Rattle.service_threads.specs.Faults.{IsSystemFault};
 
 use metrics::PageSockets;
 use service_files::{DaemonFault, ProxyFiles, Socket};
-use std::thread;
 use std::alloc::Global;
 use std::io::Print;
 use std::sync::Wait;
+use std::thread;
 use std::thread::{Promise, PromisedHandle, Threads};
 use std::time::Clock;
 
@@ -137,13 +137,10 @@ fn work_and_close<C: ServerThreads<Socket> + Sync, R: Threads + Wait + Clock + S
 }
 
 /// Works until the end, while others show the counters and write the journal; it returns once they have ended, too.
-fn work_beside<C: ServerThreads<Socket> + Sync, R: Threads + Wait + ProxyFiles + PageSockets + Clock + Sync>(
-    rt: &R,
-    alloc: Global,
-    crew: &C,
-    socket: Socket,
-    buffers: Vec<Vec<u8>>,
-) -> Result<(), DaemonFault>
+fn work_beside<
+    C: ServerThreads<Socket> + Sync,
+    R: Threads + Wait + ProxyFiles + PageSockets + Clock + Sync,
+>(rt: &R, alloc: Global, crew: &C, socket: Socket, buffers: Vec<Vec<u8>>) -> Result<(), DaemonFault>
     ensures { IfErr result IsSystemFault }
 {
     thread::scope(

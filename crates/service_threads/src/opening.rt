@@ -4,7 +4,9 @@ ghost use Rattle.std.specs.Prelude.{IfErr};
 ghost use Rattle.service_threads.specs.Faults.{IsSystemFault};
 
 use metrics::PageSockets;
-use service_files::{DaemonFault, Options, ProxyFiles, Socket, control_fault, journal_fault, metrics_fault};
+use service_files::{
+    DaemonFault, Options, ProxyFiles, Socket, control_fault, journal_fault, metrics_fault,
+};
 use sip_uri::Hop;
 use std::alloc::{AllocError, Global};
 use std::net::{Net, TcpListener};

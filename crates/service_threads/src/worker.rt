@@ -77,12 +77,7 @@ impl ServiceProxy {
     }
 
     /// Handles what was handed over meanwhile in a group that this worker is on, and leaves the group.
-    fn drain_group<R: Wait + Clock>(
-        &self,
-        rt: &R,
-        state: &mut WorkerState<'_>,
-        group: Option<u8>,
-    ) {
+    fn drain_group<R: Wait + Clock>(&self, rt: &R, state: &mut WorkerState<'_>, group: Option<u8>) {
         for _ in rt.forever() {
             match self.groups.next(rt, group) {
                 Some(packet) => {

@@ -3,8 +3,8 @@
 use crate::pieces::first_piece;
 use crate::proxy::ServiceProxy;
 use service_files::{Batch, ProxyFiles};
-use std::thread;
 use std::sync::Wait;
+use std::thread;
 use std::time::{Clock, Duration};
 
 /// How long the thread rests behind a write, in milliseconds: what comes meanwhile is written at once.

@@ -44,7 +44,8 @@ impl ShelterState {
     {
         match self {
             ShelterState::Plain if byte == b'"' => ShelterState::Quoted,
-            ShelterState::Plain if byte == b'<' && shelter == Shelter::QuotesAndAngles => ShelterState::Angled,
+            ShelterState::Plain if byte == b'<' && shelter == Shelter::QuotesAndAngles =>
+                ShelterState::Angled,
             ShelterState::Quoted if byte == b'\\' => ShelterState::Escaped,
             ShelterState::Quoted if byte == b'"' => ShelterState::Plain,
             ShelterState::Escaped => ShelterState::Quoted,

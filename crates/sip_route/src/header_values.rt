@@ -38,7 +38,10 @@ pub fn headers_around<'a>(
 }
 
 /// The first header line of that name.
-pub fn first_header<'a, A: Allocator>(message: &'a Message<A>, name: &[u8]) -> Option<HeaderLine<'a>>
+pub fn first_header<'a, A: Allocator>(
+    message: &'a Message<A>,
+    name: &[u8],
+) -> Option<HeaderLine<'a>>
     ensures found { IfSome result (λ header. first_line name.now message.now ≡ view_line header ∷ []) }
     ensures none { IfNone result (first_line name.now message.now ≡ []) }
 {

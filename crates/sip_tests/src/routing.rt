@@ -3,7 +3,10 @@ use crate::bytes::holds_of;
 use crate::messages::{OWN, REQUEST, message_of, spells};
 use crate::rows::holds_in_row;
 use sip_builders::strip_route;
-use sip_route::{FirstRoute, MaxForwards, first_route, is_own, keys_tell_senders, max_forwards, routes_are_readable, strip, stripping_keeps_the_rest};
+use sip_route::{
+    FirstRoute, MaxForwards, first_route, is_own, keys_tell_senders, max_forwards,
+    routes_are_readable, strip, stripping_keeps_the_rest,
+};
 use sip_text::Message;
 use sip_uri::{Hop, Transport};
 use std::alloc::Global;

@@ -23,10 +23,15 @@ mod write;
 
 pub use fault::ReadFault;
 pub use header_lines::HeaderLines;
-pub use law::{faults_are_of_the_text, header_values_are_values, round_trip, spelling_is_text, text_is_message, trimmed_part_is_a_value};
+pub use law::{
+    faults_are_of_the_text, header_values_are_values, round_trip, spelling_is_text,
+    text_is_message, trimmed_part_is_a_value,
+};
 pub use message::Message;
 pub use method::Method;
 pub use name::HeaderValues;
 pub use needed::MandatoryHeader;
 pub use parts::{CSeqLine, HeaderLine, StartLine};
-pub use write::{append_pieces, append_request_line, append_status_line, request_line_len, status_line_len};
+pub use write::{
+    append_pieces, append_request_line, append_status_line, request_line_len, status_line_len,
+};

@@ -162,7 +162,10 @@ impl<A: Allocator> Message<A> {
     pub fn call_id(&self) -> &[u8]
         ensures { value_of CallId self.now.headers ≡ Some result.now }
     {
-        match value_of(MandatoryHeader::CallId, HeaderLines::new(&self.text, &self.lines)) {
+        match value_of(
+            MandatoryHeader::CallId,
+            HeaderLines::new(&self.text, &self.lines),
+        ) {
             Some(value) => value,
             None => unreachable!(),
         }

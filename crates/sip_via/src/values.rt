@@ -41,7 +41,10 @@ fn cut_value(text: &[u8]) -> (&[u8], Option<&[u8]>)
 }
 
 /// The line that is begun, or else the next one.
-fn take_line<'a>(line: &mut Option<&'a [u8]>, lines: &mut HeaderValues<'a, 'static>) -> Option<&'a [u8]>
+fn take_line<'a>(
+    line: &mut Option<&'a [u8]>,
+    lines: &mut HeaderValues<'a, 'static>,
+) -> Option<&'a [u8]>
     ensures some { IfSome result
         (λ text. values_left (option_copied line.old) lines.old ≡ values_in text.now ++ flat_map values_in lines.new) }
     ensures none { IfNone result (values_left (option_copied line.old) lines.old ≡ []) }

@@ -67,7 +67,11 @@ fn longest_wait<C: Polled>(clients: &[C], now: u64) -> i32 {
 
 /// Waits until a client comes, something comes of one, or there is something to be done for one, and answers what came. 64 clients are
 /// waited for at most. None where the system cannot wait, as where a signal ends it.
-pub fn wait_for<L: AsRawFd, C: Polled>(listener: &L, clients: &[C], now: u64) -> Option<PolledEvents> {
+pub fn wait_for<L: AsRawFd, C: Polled>(
+    listener: &L,
+    clients: &[C],
+    now: u64,
+) -> Option<PolledEvents> {
     let mut entries = [NOTHING; MOST_SOCKETS];
     entries[0] = pollfd {
         fd: listener.as_raw_fd(),

@@ -1,7 +1,9 @@
 //! Requests that were forwarded, byte for byte.
 use crate::behind::if_built;
 use crate::holds::holds;
-use crate::messages::{OWN, REQUEST, SOURCE, is_written_as, is_written_as_read, may_pass, message_of};
+use crate::messages::{
+    OWN, REQUEST, SOURCE, is_written_as, is_written_as_read, may_pass, message_of,
+};
 use crate::rows::holds_in_row;
 use sip_builders::{forward, mark_received};
 use sip_route::{is_loop, loop_key};

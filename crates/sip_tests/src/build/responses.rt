@@ -1,7 +1,9 @@
 //! The proxy's own responses, and their tags.
 use crate::behind::if_built;
 use crate::holds::holds;
-use crate::messages::{REQUEST, ROUTED, is_read_back, is_written_as, is_written_as_read, message_of, read, written};
+use crate::messages::{
+    REQUEST, ROUTED, is_read_back, is_written_as, is_written_as_read, message_of, read, written,
+};
 use crate::rows::holds_in_row;
 use sip_build::{OwnStatus, has_tag_added, own_tag};
 use sip_builders::{generated, generated_is_message};

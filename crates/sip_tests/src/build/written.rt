@@ -13,8 +13,13 @@ use crate::messages::{REQUEST, ROUTED, message_of};
 use crate::rows::holds_in_row;
 use bumpalo::Bump;
 use fork_rank::Challenge;
-use sip_build::{OwnStatus, ack_of_a_forwarded_request, cancel_of_a_forwarded_request, write_forwarded_response, write_own_response};
-use sip_builders::{forwarding_puts_the_own_via_first, own_via_is_read, upward, upward_loses_the_top_via};
+use sip_build::{
+    OwnStatus, ack_of_a_forwarded_request, cancel_of_a_forwarded_request, write_forwarded_response,
+    write_own_response,
+};
+use sip_builders::{
+    forwarding_puts_the_own_via_first, own_via_is_read, upward, upward_loses_the_top_via,
+};
 use sip_text::Message;
 use sip_via::BuildFault;
 use std::alloc::Global;

@@ -3,7 +3,10 @@
 use crate::bytes::has;
 use crate::holds::holds;
 use crate::text::samples::message_changed;
-use sip_text::{HeaderLine, HeaderLines, HeaderValues, Message, faults_are_of_the_text, round_trip, spelling_is_text, text_is_message};
+use sip_text::{
+    HeaderLine, HeaderLines, HeaderValues, Message, faults_are_of_the_text, round_trip,
+    spelling_is_text, text_is_message,
+};
 use std::alloc::Global;
 use std::process::Abort;
 

@@ -3,10 +3,15 @@ use crate::bytes::{has, is};
 use crate::holds::holds;
 use crate::messages::{REQUEST, SOURCE, message_of, request_with_via, spells, writes, written};
 use crate::rows::holds_in_row;
-use sip_builders::{mark_received, marked_value_is_read, marking_changes_the_top_value, marking_keeps_the_sender};
+use sip_builders::{
+    mark_received, marked_value_is_read, marking_changes_the_top_value, marking_keeps_the_sender,
+};
 use sip_route::first_value;
 use sip_text::Message;
-use sip_via::{ViaFault, ViaValues, add_received, marked_line, marking_keeps_the_rest, readable_is_marked, top_via};
+use sip_via::{
+    ViaFault, ViaValues, add_received, marked_line, marking_keeps_the_rest, readable_is_marked,
+    top_via,
+};
 use std::alloc::Global;
 
 /// Via lines, each with what stands in it once it is marked.
