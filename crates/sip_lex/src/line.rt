@@ -2,7 +2,7 @@
 
 ghost use Rattle.std.specs.Prelude.{◌≡◌, ◌<◌, ◌++◌, ℕ, List, length, position, IfSome, IfNone};
 ghost use Rattle.sip_lex.specs.Line.{IsLine, ended, line_at, seen_line};
-ghost use Rattle.sip_lex.specs.inner.LineEnds.{is_end};
+ghost use Rattle.sip_lex.specs.inner.LineEnds.{before_end, is_end};
 
 use memchr::memchr2;
 
@@ -14,16 +14,24 @@ fn place_of_end(text: &[u8]) -> Option<usize>
     memchr2(b'\r', b'\n', text)
 }
 
+/// The line before this end of a text, where that begins with a CRLF, and what stands behind the CRLF.
+fn before_end<'a>(line: &'a [u8], end: &'a [u8]) -> Option<(&'a [u8], &'a [u8])>
+    ensures value { seen_line result ≡ before_end line.now end.now }
+    ensures shorter { IfSome result (λ p. length p.1.now < length end.now) }
+{
+    match end {
+        [b'\r', b'\n', after @ ..] => Some((line, after)),
+        _ => None,
+    }
+}
+
 #[tactic(auto, using(crate::proofs::laws::LineEnds::by_end))]
 fn line_at(text: &[u8]) -> Option<(&[u8], &[u8])>
     ensures value { seen_line result ≡ line_at text.now }
     ensures shorter { IfSome result (λ p. length p.1.now < length text.now) }
 {
     let (line, end) = text.split_at(place_of_end(text)?);
-    match end {
-        [b'\r', b'\n', after @ ..] => Some((line, after)),
-        _ => None,
-    }
+    before_end(line, end)
 }
 
 /// The line at the front without its CRLF, and what stands behind it.

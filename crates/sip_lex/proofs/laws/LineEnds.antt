@@ -1,8 +1,8 @@
 -- The line at the front of a text, by its first CR or LF.
-use Rattle.sip_lex.proofs.Common.{◌≡◌, ℕ, ◌+◌, Bool, true, false, cond, ltb, List, [], ◌∷◌, length, take, drop, Option, Some, None, refl, sym, ap, ◌∙◌, arith, position, cut, is, common_steps}
-use Rattle.std.specs.Prelude.{◌||◌, ◌==◌}
+use Rattle.sip_lex.proofs.Common.{◌≡◌, ℕ, ◌+◌, Bool, true, false, List, [], ◌∷◌, take, drop, Option, Some, None, refl, sym, ap, ◌∙◌, arith, position, cut, is, common_steps}
+use Rattle.std.specs.Prelude.{◌==◌}
 use Rattle.std.specs.Option.{option_map}
-use Rattle.sip_lex.specs.Line.{line_at, line_at_cut, line_in, line_of_cut, with_rest}
+use Rattle.sip_lex.specs.Line.{line_at, line_at_cut, line_of_cut, with_rest}
 use Rattle.sip_lex.specs.inner.LineEnds.{before_end, is_end, line_before}
 
 abbrev Cut : Type 0
@@ -36,7 +36,10 @@ onto_end b line (c ∷ d ∷ after) = grind (arith, common_steps)
 
 onto_before : (b : ℕ) (at : Option ℕ) (bs : List ℕ) → onto b (line_before at bs) ≡ line_before (option_map (λ n. 1 + n) at) (b ∷ bs)
 onto_before b None bs = refl
-onto_before b (Some at) bs = onto_end b (take at bs) (drop at bs)
+onto_before b (Some at) bs =
+    let taken : take (1 + at) (b ∷ bs) ≡ b ∷ take at bs = grind (arith, common_steps) in
+    let dropped : drop (1 + at) (b ∷ bs) ≡ drop at bs = grind (arith, common_steps) in
+    onto_end b (take at bs) (drop at bs) ∙ sym (ap (λ line. before_end line (drop at bs)) taken) ∙ sym (ap (λ end. before_end (take (1 + at) (b ∷ bs)) end) dropped)
 
 next_place : (b : ℕ) (bs : List ℕ) → is_end b ≡ false → position is_end (b ∷ bs) ≡ option_map (λ n. 1 + n) (position is_end bs)
 next_place b bs e = grind (arith, common_steps)
