@@ -4,7 +4,7 @@ pub mod Gaps
 pub mod Groups
 pub mod Grown
 pub mod HeaderPlaces
-pub mod HeaderValues
+pub mod NamedValues
 pub mod Heads
 pub mod Joins
 pub mod NeededFields

@@ -13,10 +13,9 @@ ghost use Rattle.sip_uri.specs.Key.{counted, key_of, key_params};
 ghost use Rattle.sip_uri.specs.Reading.{read_uri};
 ghost use Rattle.sip_uri.specs.Uri.{Uri, request_uri, requested, spelling};
 
-use crate::cut::{cut_body, user_and_rest};
+use crate::cut::cut_body;
 use crate::fault::UriFault;
 use crate::hop::Hop;
-use crate::host::cut_host;
 use crate::key::make_key;
 use crate::next::hop_of;
 use crate::text::cut_uri;
@@ -79,7 +78,7 @@ impl<A: Allocator + Clone> SipUri<A> {
     pub fn user(&self) -> Option<&[u8]>
         ensures { option_copied result ≡ self.now.user }
     {
-        user_and_rest(&self.text[4..]).0
+        cut_body(&self.text[4..]).user
     }
 
     /// The host as written (RFC 3261 section 25.1).
@@ -88,8 +87,7 @@ impl<A: Allocator + Clone> SipUri<A> {
         // Each URI that there is keeps the grammar.
         ensures grammar { IsUri self.now }
     {
-        let (_, rest) = user_and_rest(&self.text[4..]);
-        cut_host(rest).0
+        cut_body(&self.text[4..]).host
     }
 
     /// Each URI that was read keeps the grammar (RFC 3261 section 25.1). A law: it does nothing when it

@@ -1,4 +1,4 @@
-use Rattle.sip_text.proofs.HeaderValues.{header_values}
+use Rattle.sip_text.proofs.NamedValues.{header_values}
 use Rattle.sip_text.proofs.law.header_values_are_values.Goals as goal
 
 pub returns : goal.returns
