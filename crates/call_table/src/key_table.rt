@@ -76,7 +76,7 @@ impl<A: Allocator + Clone> KeyTable<A> {
     pub(crate) fn free(&self, key: &[u8]) -> Result<u64, TakenKey>
         ensures number { IfOk result (λ no. (no ≡ self.now.next) × (no + 1 < 2 ^ 64)) }
         ensures new { OnOk result (number_of self.now key.now ≡ None) }
-        ensures known { (no : ℕ) → IsErrOf result (Taken.Known no) ↔ (number_of self.now key.now ≡ Some no) }
+        ensures known { (no : ℕ) → IsErrOf result (TakenKey.Known no) ↔ (number_of self.now key.now ≡ Some no) }
     {
         if let Some(no) = self.keyed(key) {
             return Err(TakenKey::Known(no));
