@@ -40,7 +40,6 @@ fn are_alike(qs: &[u16]) -> bool
 }
 
 /// Whether each of some q, of which there is one, is this one.
-#[tactic(auto, using(crate::proofs::Alike::all_one_group))]
 fn are_all(qs: &[u16], q: u16) -> bool
     requires some { 0 < length qs.now }
     ensures { OnTrue result (numbered qs.now ≡ in_group 0 (numbers_below (length qs.now))) }

@@ -20,33 +20,33 @@ Level::end-returns-in-Some g t c =
 pub Level::end-returns-in_default : goal.Level::end-returns-in_default
 Level::end-returns-in_default g t c = absurd (none_here _ c.self.inside.groups.items _ c.self.view_is c.in_default.ensures.cases c.requires.there)
 
-pub Group::end-index_mut-requires : goal.Group::end-index_mut-requires
-Group::end-index_mut-requires g t c =
+pub NodeGroup::end-index_mut-requires : goal.NodeGroup::end-index_mut-requires
+NodeGroup::end-index_mut-requires g t c =
     let h : c.in-Some.first.now < length c.self.inside.nodes.items = step_in _ c.self.inside.nodes.items _ _ _ c.self.view_is c.in-Some.ensures.cases.0 c.requires.there in omega arith
 
-pub Group::end-end-requires : goal.Group::end-end-requires
-Group::end-end-requires g t c κs within = (
+pub NodeGroup::end-end-requires : goal.NodeGroup::end-end-requires
+NodeGroup::end-end-requires g t c κs within = (
   omega (arith, c.decreases, c.in-Some.ensures.cases.1),
   (within, step_few _ c.self.inside.nodes.items _ _ _ _ _ _ _ c.self.view_is c.in-Some.ensures.cases.0 c.index_mut.ensures.value c.requires),
 )
 
-pub Group::end-returns-in-Some : goal.Group::end-returns-in-Some
-Group::end-returns-in-Some g t c =
+pub NodeGroup::end-returns-in-Some : goal.NodeGroup::end-returns-in-Some
+NodeGroup::end-returns-in-Some g t c =
     step_changes _ c.self.inside.nodes.items _ _ _ _ _ _ _ _ c.self.view_is c.in-Some.ensures.cases.0 c.index_mut.ensures.value c.requires.there c.end.ensures
 
-pub Group::end-returns-in_default : goal.Group::end-returns-in_default
-Group::end-returns-in_default g t c = absurd (none_here _ c.self.inside.nodes.items _ c.self.view_is c.in_default.ensures.cases c.requires.there)
+pub NodeGroup::end-returns-in_default : goal.NodeGroup::end-returns-in_default
+NodeGroup::end-returns-in_default g t c = absurd (none_here _ c.self.inside.nodes.items _ c.self.view_is c.in_default.ensures.cases c.requires.there)
 
-pub Group::end-overflow_add-self : goal.Group::end-overflow_add-self
-Group::end-overflow_add-self g t c =
+pub NodeGroup::end-overflow_add-self : goal.NodeGroup::end-overflow_add-self
+NodeGroup::end-overflow_add-self g t c =
     omega (arith, c.self.invariant, ap open_of c.self.view_is, open_le c.args.self.now, c.requires.opens, open_le c.args.below, c.requires.few)
 
-pub Group::end-overflow_sub-self : goal.Group::end-overflow_sub-self
-Group::end-overflow_sub-self g t c =
+pub NodeGroup::end-overflow_sub-self : goal.NodeGroup::end-overflow_sub-self
+NodeGroup::end-overflow_sub-self g t c =
     omega (arith, c.self.invariant, ap open_of c.self.view_is, open_some c.args.self.now c.args.path.now c.requires.there)
 
-pub Group::end-invariant_of-self : goal.Group::end-invariant_of-self
-Group::end-invariant_of-self g t c =
+pub NodeGroup::end-invariant_of-self : goal.NodeGroup::end-invariant_of-self
+NodeGroup::end-invariant_of-self g t c =
     let change = step_changes _ c.self.inside.nodes.items _ _ _ _ _ _ _ _ c.self.view_is c.in-Some.ensures.cases.0 c.index_mut.ensures.value c.requires.there
     c.end.ensures in
     omega (arith, c.self.invariant, ap open_of c.self.view_is, open_some c.args.self.now c.args.path.now c.requires.there, change.counted)

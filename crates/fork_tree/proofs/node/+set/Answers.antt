@@ -19,24 +19,24 @@ Level::set-returns-in-Some g t c =
 pub Level::set-returns-in_default : goal.Level::set-returns-in_default
 Level::set-returns-in_default g t c = absurd (none_here _ c.self.inside.groups.items _ c.self.view_is c.in_default.ensures.cases c.requires.there)
 
-pub Group::set-index_mut-requires : goal.Group::set-index_mut-requires
-Group::set-index_mut-requires g t c =
+pub NodeGroup::set-index_mut-requires : goal.NodeGroup::set-index_mut-requires
+NodeGroup::set-index_mut-requires g t c =
     let h : c.in-Some.first.now < length c.self.inside.nodes.items = step_in _ c.self.inside.nodes.items _ _ _ c.self.view_is c.in-Some.ensures.cases.0 c.requires.there in omega arith
 
-pub Group::set-set-requires : goal.Group::set-set-requires
-Group::set-set-requires g t c κs within =
+pub NodeGroup::set-set-requires : goal.NodeGroup::set-set-requires
+NodeGroup::set-set-requires g t c κs within =
     let there = step_open _ c.self.inside.nodes.items _ _ _ _ c.self.view_is c.in-Some.ensures.cases.0 c.index_mut.ensures.value c.requires.there in
     (omega (arith, c.decreases, c.in-Some.ensures.cases.1), (within, (there, c.requires.waits)))
 
-pub Group::set-returns-in-Some : goal.Group::set-returns-in-Some
-Group::set-returns-in-Some g t c =
+pub NodeGroup::set-returns-in-Some : goal.NodeGroup::set-returns-in-Some
+NodeGroup::set-returns-in-Some g t c =
     step_changes _ c.self.inside.nodes.items _ _ _ _ _ _ _ _ c.self.view_is c.in-Some.ensures.cases.0 c.index_mut.ensures.value c.requires.there c.set.ensures
 
-pub Group::set-returns-in_default : goal.Group::set-returns-in_default
-Group::set-returns-in_default g t c = absurd (none_here _ c.self.inside.nodes.items _ c.self.view_is c.in_default.ensures.cases c.requires.there)
+pub NodeGroup::set-returns-in_default : goal.NodeGroup::set-returns-in_default
+NodeGroup::set-returns-in_default g t c = absurd (none_here _ c.self.inside.nodes.items _ c.self.view_is c.in_default.ensures.cases c.requires.there)
 
-pub Group::set-invariant_of-self : goal.Group::set-invariant_of-self
-Group::set-invariant_of-self g t c =
+pub NodeGroup::set-invariant_of-self : goal.NodeGroup::set-invariant_of-self
+NodeGroup::set-invariant_of-self g t c =
     let change = step_changes _ c.self.inside.nodes.items _ _ _ _ _ _ _ _ c.self.view_is c.in-Some.ensures.cases.0 c.index_mut.ensures.value c.requires.there
     c.set.ensures in
     omega (arith, c.self.invariant, ap open_of c.self.view_is, change.counted)
