@@ -18,5 +18,5 @@ limits_send A g = made.the_send A g
 pub places_send : IsSend places.the_row
 places_send = made_places.the_send
 
-quota_sync : IsSync quota.the_field.row
+pub quota_sync : IsSync quota.the_field.row
 quota_sync = struct_sync (shape quota.the_type) (search (crosses, made_places.the_send), (search (crosses, sendable), (search (crosses, sendable), tt)))
