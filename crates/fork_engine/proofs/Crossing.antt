@@ -6,7 +6,7 @@ use Rattle.std.specs.declared.alloc.Allocator.{Ghosts}
 use Rattle.std.specs.declared.clone.Clone as clone
 use Rattle.std.specs.contracts.vec.Vec.{the_row as vec_row}
 use Rattle.std.proofs.vec.Vec.TheSendSync.{the_send as vec_send}
-use Rattle.fork_tree.proofs.node.NodeGroup.TheLaws.TheKnot as knot
+use Rattle.fork_tree.proofs.node.Level.TheLaws.TheKnot as knot
 use Rattle.fork_tree.specs.contracts.tree.ForkTree.{the_row as tree_row}
 use Rattle.fork_book.specs.contracts.book.Book.{the_row as book_row}
 use Rattle.fork_engine.specs.contracts.opened_book.OpenedBook.{the_row as held_row}

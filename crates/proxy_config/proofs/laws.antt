@@ -1,3 +1,3 @@
 pub mod Crossing
 pub mod Lines
-mod TextLines
+pub mod TextLines
