@@ -1,6 +1,6 @@
 //! Reading a message.
 
-ghost use Rattle.std.specs.Prelude.{◌≡◌, ◌∷◌, [], IfOk, length, map};
+ghost use Rattle.std.specs.Prelude.{◌≡◌, ◌≤◌, ◌∷◌, [], IfOk, length, map};
 ghost use Rattle.sip_text.specs.Fault.{Gives};
 ghost use Rattle.sip_text.specs.Fields.{said_length};
 ghost use Rattle.sip_text.specs.Message.{IsHead, body_at, head_of, read_at, zeroed};
@@ -121,15 +121,29 @@ fn body_of<A: Allocator>(
     }
 }
 
-/// How many bytes the text of a message has room for behind it, so that a Via line that is marked with its source, and
-/// other short values, are put into it without memory.
-const ROOM: usize = 256;
+/// How many bytes the text of a request has room for behind it, so that a Via line that is marked with its source is put
+/// into it without memory.
+const REQUEST_ROOM: usize = 192;
 
-/// A copy of a text with room behind it.
-fn kept_text<A: Allocator + Clone>(alloc: &A, text: &[u8]) -> Result<Vec<u8, A>, AllocError>
+/// How many bytes the text of a message has room for behind it: nothing is put into a response.
+fn room_of(start: StartPlaces) -> usize
+    ensures { result ≤ 192 }
+{
+    match start {
+        StartPlaces::Request { .. } => REQUEST_ROOM,
+        StartPlaces::Response { .. } => 0,
+    }
+}
+
+/// A copy of a text with so much room behind it.
+fn kept_text<A: Allocator + Clone>(
+    alloc: &A,
+    text: &[u8],
+    room: usize,
+) -> Result<Vec<u8, A>, AllocError>
     ensures { IfOk result (λ kept. kept.items ≡ text.now) }
 {
-    let mut kept = Vec::with_capacity(alloc.clone()?, text.len().saturating_add(ROOM))?;
+    let mut kept = Vec::with_capacity(alloc.clone()?, text.len().saturating_add(room))?;
     kept.extend_from_slice(text)?;
     Ok(kept)
 }
@@ -145,7 +159,7 @@ pub fn read_all<A: Allocator + Clone>(alloc: &A, text: &[u8]) -> Result<Message<
     };
     let places = start_of::<A>(line)?;
     let start = places.moved(text.len() - begin.len());
-    let mut kept = kept_text(alloc, text)?;
+    let mut kept = kept_text(alloc, text, room_of(start))?;
     let (lines, rest) = headers_of(alloc, &mut kept, text, rest)?;
     let found = found_in(&kept, &lines);
     if let Some(name) = found.missing() {
