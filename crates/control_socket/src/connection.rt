@@ -2,7 +2,7 @@
 use crate::answer::ClientAnswer;
 use crate::client::{Client, ClientTurn};
 use libc::net;
-use socket_poll::Polled;
+use sockets::Polled;
 use std::io;
 use std::io::{ErrorKind, Read, Write};
 use std::net::Shutdown;

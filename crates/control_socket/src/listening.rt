@@ -4,7 +4,7 @@ use crate::client::ClientTurn;
 use crate::command::ControlCommand;
 use crate::connection::Connection;
 use crate::control::ControlHandler;
-use socket_poll::{MOST_CLIENTS, Polled, PolledEvents, is_gone, place_of_first, wait_for};
+use sockets::{MOST_CLIENTS, Polled, PolledEvents, is_gone, place_of_first, wait_for};
 use std::alloc::Global;
 use std::os::unix::net::UnixListener;
 use std::time::{Clock, Duration, Instant};

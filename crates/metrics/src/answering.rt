@@ -1,7 +1,7 @@
 //! Answering scrapers, many at a time.
 use crate::scraper::Scraper;
 use crate::sockets::PageSockets;
-use socket_poll::{MOST_CLIENTS, PolledEvents, is_gone, place_of_first, wait_for};
+use sockets::{MOST_CLIENTS, PolledEvents, is_gone, place_of_first, wait_for};
 use std::alloc::Global;
 use std::net::TcpListener;
 use std::time::{Clock, Duration, Instant};

@@ -2,7 +2,7 @@
 use crate::page::Page;
 use http_server::{Config, Connection};
 use libc::net;
-use socket_poll::Polled;
+use sockets::Polled;
 use std::alloc::Global;
 use std::hash::RandomState;
 use std::io;

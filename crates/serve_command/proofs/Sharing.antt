@@ -11,13 +11,13 @@ use Rattle.call_table.proofs.laws.Crossing.{shelf_sync}
 use Rattle.call_table.proofs.laws.Crossing.{schedule_sync}
 use Rattle.proxy_config.proofs.laws.Crossing.{setup_sync}
 use Rattle.serve_command.proofs.dropped.Dropped.TheSendSync as dropped
-use Rattle.serve_command.proofs.socket.TurnSocket.TheSendSync as socket
+use Rattle.sockets.proofs.laws.Crossing.{socket_sync}
 use Rattle.serve_command.specs.contracts.worker.TurnProxy as proxy
 use Rattle.serve_command.specs.contracts.serving.TurnServer as server
 
 proxy_sync : (h : clone.Ghosts heap_row.Denot) → IsSync (proxy.the_field heap_row ghosts h).row
 proxy_sync h = struct_sync (shape (proxy.the_type heap_row ghosts h))
-    (sync, (setup_sync heap_row ghosts sync, (socket.the_field_sync, (shelf_sync (call_row heap_row ghosts h) heap_row ghosts (call_send h) send sync frees, (schedule_sync heap_row ghosts send frees, (dropped.the_field_sync, (dropped.the_field_sync, (dropped.the_field_sync, tt))))))))
+    (sync, (setup_sync heap_row ghosts sync, (socket_sync, (shelf_sync (call_row heap_row ghosts h) heap_row ghosts (call_send h) send sync frees, (schedule_sync heap_row ghosts send frees, (dropped.the_field_sync, (dropped.the_field_sync, (dropped.the_field_sync, tt))))))))
 
 pub server_sync : IsSync server.the_row
 server_sync = recorded_sync server.the_field.row _ _ (server.the_type).to_one (struct_sync (shape server.the_type) (search proxy_sync, tt))

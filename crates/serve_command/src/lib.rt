@@ -8,9 +8,9 @@ mod ending;
 mod fault;
 mod job;
 mod jobs;
+mod port;
 mod receiver;
 mod serving;
-mod socket;
 mod turns;
 mod worker;
 

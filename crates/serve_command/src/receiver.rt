@@ -1,17 +1,20 @@
 //! The turns of a proxy: what comes in is given to the workers.
-ghost use Rattle.std.specs.Prelude.{IfErr};
+ghost use Rattle.std.specs.Prelude.{◌≤◌, IfErr, IfOk, IfSome, length};
 ghost use Rattle.serve_command.specs.inner.Faults.{IsSystemFault};
 
-use crate::fault::ServeFault;
+use crate::fault::{ServeFault, of_system};
 use crate::job::Job;
 use crate::jobs::JobSender;
-use crate::socket::TURN;
 use crate::worker::TurnProxy;
 use call_affinity::group_of;
 use log::Log;
 use sip_uri::Hop;
+use sockets::Socket;
 use std::alloc::Allocator;
 use std::sync::Wait;
+
+/// How long a receive waits at most for a datagram, in milliseconds.
+const TURN: u16 = 10;
 
 /// A worker that holds so many jobs has enough to do: the next datagram is for the other worker.
 const ENOUGH_JOBS: u64 = 4;
@@ -30,6 +33,15 @@ pub(crate) struct Running {
 struct Last {
     is_first: bool,
     number: u64,
+}
+
+/// What came of a receive.
+#[derive(Clone, Copy)]
+struct TurnReceived {
+    /// A datagram's length and source.
+    datagram: Option<(usize, Hop)>,
+    /// Whether nothing came for as long as a receive waits.
+    is_quiet: bool,
 }
 
 /// The ways to the workers.
@@ -166,6 +178,52 @@ fn pass_on<R: Wait + Log, A: Allocator + Clone>(
     }
 }
 
+/// The length and the source of a datagram that waits in the socket, or None where none does.
+///
+/// # Errors
+///
+/// `Socket` where the receive failed.
+fn take_waiting(socket: &Socket, buffer: &mut [u8]) -> Result<Option<(usize, Hop)>, ServeFault>
+    ensures fits { IfOk result (λ came. IfSome came (λ packet. packet.0 ≤ length buffer.new)) }
+    ensures fault { IfErr result IsSystemFault }
+{
+    match socket.receive(buffer) {
+        Ok(came) => Ok(came),
+        Err(error) => Err(of_system(error)),
+    }
+}
+
+/// A datagram that waits in the socket or comes within 10 ms. A datagram that waits costs one call of the system. What comes and is no
+/// datagram, as with a wrong checksum, ends the wait, and does not make the turn a quiet one.
+///
+/// # Errors
+///
+/// `Socket` where the receive failed.
+fn receive(socket: &Socket, buffer: &mut [u8]) -> Result<TurnReceived, ServeFault>
+    ensures fits { IfOk result
+        (λ received. IfSome received.datagram (λ packet. packet.0 ≤ length buffer.new)) }
+    ensures fault { IfErr result IsSystemFault }
+{
+    let waiting = take_waiting(socket, buffer)?;
+    if waiting.is_some() {
+        return Ok(TurnReceived {
+            datagram: waiting,
+            is_quiet: false,
+        });
+    }
+    match socket.await_datagram(TURN) {
+        Ok(true) => Ok(TurnReceived {
+            datagram: take_waiting(socket, buffer)?,
+            is_quiet: false,
+        }),
+        Ok(false) => Ok(TurnReceived {
+            datagram: None,
+            is_quiet: true,
+        }),
+        Err(error) => Err(of_system(error)),
+    }
+}
+
 /// One turn: a receive of at most 10 ms, and then a tick where something is due. Says whether nothing came in these 10 ms.
 fn turn<R: Wait + Log, A: Allocator + Clone>(
     rt: &R,
@@ -176,7 +234,7 @@ fn turn<R: Wait + Log, A: Allocator + Clone>(
 ) -> Result<bool, ServeFault>
     ensures { IfErr result IsSystemFault }
 {
-    let received = proxy.socket.receive(buffer)?;
+    let received = receive(&proxy.socket, buffer)?;
     if let Some((count, source)) = received.datagram {
         pass_on(rt, proxy, senders, &buffer[..count], source, now);
     }

@@ -11,12 +11,12 @@ use crate::fault::{ServeFault, of_system};
 use crate::job::Job;
 use crate::jobs::{JobReceiver, JobSender, Waker};
 use crate::receiver::{Running, Senders, receive_all};
-use crate::socket::TurnSocket;
 use crate::worker::TurnProxy;
 use call_table::Inbox;
 use fork_call::Setup;
 use log::Log;
 use sip_uri::Hop;
+use sockets::{Socket, SocketWaits, datagram_buffer, is_shared, print_listening};
 use std::alloc::Global;
 use std::io::Print;
 use std::net::Net;
@@ -26,9 +26,6 @@ use std::thread::Threads;
 
 /// How many bytes a configuration has at most.
 const MOST_TEXT: usize = 1_048_576;
-
-/// How many bytes of a datagram are received.
-const MOST_BYTES: usize = 65_535;
 
 /// The receiving ends of the workers.
 #[derive(Drop)]
@@ -114,11 +111,6 @@ fn run<C: TurnThreads + Sync, R: Threads + Wait + Log + Sync>(
     )
 }
 
-/// Shows that threads may share this value.
-fn is_shared<T: Sync>(_: &T)
-    ensures { IsSync T.row }
-{}
-
 /// Shows that threads may share a server.
 fn server_is_shared(server: &TurnServer)
     ensures { IsSync server_row }
@@ -136,7 +128,7 @@ fn run_workers<R: Threads + Wait + Log + Sync, P: Print>(
 ) -> Result<(), ServeFault>
     ensures { IfErr result IsSystemFault }
 {
-    let mut buffer = vec![in alloc; 0u8; MOST_BYTES]?;
+    let mut buffer = datagram_buffer(alloc)?;
     let first = Waker::new();
     let second = Waker::new();
     let timer = Waker::new();
@@ -154,7 +146,7 @@ fn run_workers<R: Threads + Wait + Log + Sync, P: Print>(
         timer: JobReceiver::new(timer_out, &timer),
     };
     server_is_shared(server);
-    print_listening(out, &server.proxy.setup)?;
+    tell_listening(out, &server.proxy.setup)?;
     run(
         rt,
         server,
@@ -169,20 +161,25 @@ fn run_workers<R: Threads + Wait + Log + Sync, P: Print>(
 fn server_of<R: Net>(rt: &R, alloc: Global, setup: Setup) -> Result<TurnServer, ServeFault>
     ensures { IfErr result IsSystemFault }
 {
-    let own = setup.own();
-    let socket = TurnSocket::bind(rt, Hop::over_udp(own.addr, own.port))?;
+    let socket = match Socket::bind(rt, own_of(&setup), SocketWaits::BetweenCalls) {
+        Ok(socket) => socket,
+        Err(error) => return Err(of_system(error)),
+    };
     let proxy = TurnProxy::new(alloc, setup, socket)?;
     Ok(TurnServer { proxy })
 }
 
+/// The address that a setup names.
+fn own_of(setup: &Setup) -> Hop {
+    let own = setup.own();
+    Hop::over_udp(own.addr, own.port)
+}
+
 /// Tells where a proxy listens.
-fn print_listening<P: Print>(out: &P, setup: &Setup) -> Result<(), ServeFault>
+fn tell_listening<P: Print>(out: &P, setup: &Setup) -> Result<(), ServeFault>
     ensures { IfErr result IsSystemFault }
 {
-    let own = setup.own();
-    let [a, b, c, d] = own.addr;
-    let port = own.port;
-    match out.println(format_args!("listening {a}.{b}.{c}.{d} {port}")) {
+    match print_listening(out, own_of(setup)) {
         Ok(()) => Ok(()),
         Err(error) => Err(of_system(error)),
     }
@@ -242,7 +239,7 @@ pub fn serve_to<R: Threads + Wait + Net + Log + Sync, P: Print>(
 ///
 /// # Errors
 ///
-/// In this order, but for want of memory: `TooLong` over 1,048,576 bytes; `Line` with the first malformed line; `TurnSocket` where
+/// In this order, but for want of memory: `TooLong` over 1,048,576 bytes; `Line` with the first malformed line; `Socket` where
 /// the address cannot be bound, a receive fails or standard output cannot be written. `NoMemory` where the allocator refuses
 /// while no worker runs yet or no longer; a datagram or a step that is refused memory in a worker is left, and the proxy serves on.
 pub fn serve<R: Threads + Wait + Net + Print + Log + Sync>(

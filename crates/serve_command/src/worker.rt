@@ -4,11 +4,12 @@ ghost use Rattle.std.specs.Prelude.{◌≡◌};
 use crate::dropped::Dropped;
 use crate::job::Job;
 use crate::jobs::JobReceiver;
-use crate::socket::{TurnPort, TurnSocket};
+use crate::port::TurnPort;
 use call_table::{Schedule, Shelf};
 use fork_call::{Call, Port, Setup, carry};
 use log::Log;
 use proxy_dispatch::{Handled, Received, SharedCalls, Unlimited, handle};
+use sockets::Socket;
 use std::alloc::{AllocError, Allocator, Global};
 use std::sync::Wait;
 
@@ -33,7 +34,7 @@ fn hold_ready<A: Allocator>(alloc: A) {
 pub(crate) struct TurnProxy<A: Allocator + Clone = Global> {
     pub(crate) alloc: A,
     pub(crate) setup: Setup<A>,
-    pub(crate) socket: TurnSocket,
+    pub(crate) socket: Socket,
     pub(crate) calls: Shelf<Call<A>, A>,
     pub(crate) schedule: Schedule<A>,
     /// Datagrams that a full inbox refused.
@@ -64,7 +65,7 @@ impl<A: Allocator + Clone> TurnProxy<A> {
     pub(crate) fn new(
         alloc: A,
         setup: Setup<A>,
-        socket: TurnSocket,
+        socket: Socket,
     ) -> Result<TurnProxy<A>, AllocError> {
         let calls = Shelf::new(alloc.clone()?)?;
         let schedule = Schedule::new(alloc.clone()?)?;

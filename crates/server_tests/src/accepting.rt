@@ -11,6 +11,7 @@ use fork_call::{Call, Cause, Datagram, Port, Setup, carry};
 use fork_context::State;
 use proxy_dispatch::{Handled, Received, SharedCalls, Unlimited, handle};
 use sip_uri::{Hop, Transport};
+use sockets::is_shared;
 use std::alloc::{Allocator, Global};
 use std::process::Abort;
 use std::sync::Wait;
@@ -301,11 +302,6 @@ fn sent_at_once<T: Taking + Sync, R: Threads + Abort + Wait + Sync>(
         || sent_for(rt, desk, &here, second),
     )
 }
-
-/// That threads may share this.
-fn is_shared<T: Sync>(_: &T)
-    ensures { IsSync T.row }
-{}
 
 /// That threads may share a desk.
 fn desk_is_shared(desk: &Desk)

@@ -1,4 +1,4 @@
-//! Tests of the public calls of `proxy_server`, a file for each part of it. They stand apart from it so that it is not proved twice.
+//! Tests of the public calls of `serve_command`, a file for each part of it. They stand apart from it so that it is not proved twice.
 #![tactic(auto)]
 
 #[cfg(test)]

@@ -2,6 +2,8 @@
 use crate::holds::holds;
 use crate::printed::Printed;
 use serve_command::{ServeFault, serve_to};
+use sip_uri::Hop;
+use sockets::print_listening;
 use std::alloc::{AllocError, Global};
 use std::test::Fail;
 
@@ -53,5 +55,18 @@ fn a_long_text_is_refused(rt: HostRuntime) -> Result<(), Fail> {
         holds(&rt, served == Err(fault), "the text is no configuration");
     }
     holds(&rt, printed.is(b""), "nothing is printed");
+    Ok(())
+}
+
+#[test]
+fn where_a_proxy_listens_is_printed(rt: HostRuntime) -> Result<(), Fail> {
+    let printed = Printed::new(rt, rt.alloc());
+    let told = print_listening(&printed, Hop::over_udp([192, 0, 2, 9], 5060));
+    holds(&rt, told.is_ok(), "it is told");
+    holds(
+        &rt,
+        printed.is(b"listening 192.0.2.9 5060\n"),
+        "the address and the port",
+    );
     Ok(())
 }

@@ -1,5 +1,5 @@
-//! What a service has of its system: the files of its configuration, its journal and its control socket, the memory that it may take, its UDP socket,
-//! the queue of what waits to be written, and why it does not serve.
+//! What a service has of its system: the files of its configuration, its journal and its control socket, the memory that it may take, the queue of
+//! what waits to be written, and why it does not serve.
 #![tactic(auto)]
 
 mod control_file;
@@ -11,7 +11,6 @@ mod options;
 mod queue;
 mod reading;
 mod setup;
-mod socket;
 mod system;
 
 pub use fault::{
@@ -24,4 +23,3 @@ pub use memory::{
 pub use options::Options;
 pub use queue::{Batch, JournalQueue};
 pub use setup::{Identity, UnobeyedLine, read_setup, read_text};
-pub use socket::{SendOutcome, Socket};

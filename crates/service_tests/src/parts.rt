@@ -4,15 +4,14 @@ use metrics::{Counts, Gauges};
 use proxy_service::Marks;
 use service_admission::{CallQuota, is_keep_alive};
 use service_files::{
-    DaemonFault, Identity, ProxyFiles, SendOutcome, Socket, UnobeyedLine, calls_within,
-    configuration_fault, control_fault, group_limit, journal_fault, memory_total, metrics_fault,
-    most_calls_here, read_setup, read_text, resident_bytes, resident_pages, socket_fault,
+    DaemonFault, Identity, ProxyFiles, UnobeyedLine, calls_within, configuration_fault,
+    control_fault, group_limit, journal_fault, memory_total, metrics_fault, most_calls_here,
+    read_setup, read_text, resident_bytes, resident_pages, socket_fault,
 };
-use sip_uri::{Hop, Transport};
+use sip_uri::Transport;
 use sip_via::Own;
 use std::alloc::{AllocError, Global};
 use std::io::ErrorKind;
-use std::net::Net;
 use std::test::Fail;
 use std::{fs, io};
 
@@ -290,37 +289,4 @@ fn are_kept() -> bool {
 #[test]
 fn places_are_kept_while_there_are_some(rt: HostRuntime) {
     holds(&rt, are_kept(), "two places");
-}
-
-/// Where the socket of the test is.
-const AT: Hop = Hop {
-    addr: [127, 0, 0, 1],
-    port: 47_431,
-    transport: Transport::Udp,
-};
-
-/// Whether a datagram that a socket sends to itself comes.
-fn comes_back<R: Net>(rt: &R) -> bool {
-    let Ok(socket) = Socket::bind(rt, AT) else {
-        return false;
-    };
-    let mut buffer = [0u8; 16];
-    let is_empty = !socket.has_waiting();
-    if socket.send(b"one", AT) != SendOutcome::Whole || !socket.has_waiting() {
-        return false;
-    }
-    let Ok(Some((3, source))) = socket.receive(&mut buffer) else {
-        return false;
-    };
-    let is_empty_again = !socket.has_waiting();
-    socket.wake(AT);
-    is_empty
-        && is_empty_again
-        && source == AT
-        && matches!(socket.receive(&mut buffer), Ok(Some((0, _))))
-}
-
-#[test]
-fn a_socket_sends_and_receives(rt: HostRuntime) {
-    holds(&rt, comes_back(&rt), "what it sends to itself comes");
 }

@@ -1,7 +1,12 @@
-//! Sockets that one thread waits for together.
+//! Sockets that one thread waits for together, and the socket of a proxy.
 use crate::holds::holds;
 use libc::net;
-use socket_poll::{MOST_CLIENTS, Polled, PolledEvents, is_gone, place_of_first, wait_for};
+use sip_uri::Hop;
+use sockets::{
+    MOST_CLIENTS, Polled, PolledEvents, SendOutcome, Socket, SocketWaits, datagram_buffer, is_gone,
+    place_of_first, wait_for,
+};
+use std::alloc::Global;
 use std::io;
 use std::io::Write;
 use std::net::Net;
@@ -165,4 +170,70 @@ fn the_client_whose_time_is_over_first_is_found(rt: HostRuntime) -> Result<(), F
     drop(socket);
     drop(other);
     Ok(())
+}
+
+/// Where the socket of a test is.
+fn at(port: u16) -> Hop {
+    Hop::over_udp([127, 0, 0, 1], port)
+}
+
+/// Whether a datagram that a socket sends to itself comes.
+fn comes_back(alloc: Global, socket: &Socket, own: Hop) -> bool {
+    let Ok(mut buffer) = datagram_buffer(alloc) else {
+        return false;
+    };
+    let is_empty = !socket.has_waiting();
+    if socket.send(b"one", own) != SendOutcome::Whole || !socket.has_waiting() {
+        return false;
+    }
+    let Ok(Some((3, source))) = socket.receive(&mut buffer) else {
+        return false;
+    };
+    let is_empty_again = !socket.has_waiting();
+    socket.wake(own);
+    is_empty
+        && is_empty_again
+        && source == own
+        && matches!(socket.receive(&mut buffer), Ok(Some((0, _))))
+}
+
+/// Whether a socket whose calls do not wait has a datagram waited for only where it is told to.
+fn waits_between(socket: &Socket, own: Hop) -> bool {
+    let mut buffer = [0u8; 16];
+    let is_quiet = matches!(socket.receive(&mut buffer), Ok(None));
+    let is_still_quiet = matches!(socket.await_datagram(10), Ok(false));
+    socket.wake(own);
+    is_quiet && is_still_quiet && matches!(socket.await_datagram(1_000), Ok(true))
+}
+
+/// Whether a socket sends and receives whose calls wait by themselves.
+fn works_in_calls<R: Net>(rt: &R, alloc: Global) -> bool {
+    match Socket::bind(rt, at(47_431), SocketWaits::InCalls) {
+        Ok(socket) => comes_back(alloc, &socket, at(47_431)),
+        Err(_) => false,
+    }
+}
+
+/// Whether one does whose calls do not.
+fn works_between_calls<R: Net>(rt: &R, alloc: Global) -> bool {
+    match Socket::bind(rt, at(47_432), SocketWaits::BetweenCalls) {
+        Ok(socket) => {
+            comes_back(alloc, &socket, at(47_432)) && waits_between(&socket, at(47_432))
+        }
+        Err(_) => false,
+    }
+}
+
+#[test]
+fn a_socket_sends_and_receives(rt: HostRuntime) {
+    holds(
+        &rt,
+        works_in_calls(&rt, rt.alloc()),
+        "what it sends to itself comes",
+    );
+    holds(
+        &rt,
+        works_between_calls(&rt, rt.alloc()),
+        "also where no call waits by itself",
+    );
 }

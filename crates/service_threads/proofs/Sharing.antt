@@ -9,8 +9,8 @@ use Rattle.std.specs.contracts.impls.GlobalAllocator.TheImpl.{ghosts}
 use Rattle.call_affinity.proofs.laws.Crossing as group
 use Rattle.call_affinity.proofs.room.WaitingRoom.TheSendSync as room
 use Rattle.call_affinity.specs.contracts.group.CallGroup.{the_row as group_row}
-use Rattle.service_files.proofs.laws.Crossing as parts
-use Rattle.service_files.specs.contracts.socket.Socket as socket
+use Rattle.sockets.proofs.laws.Crossing as parts
+use Rattle.sockets.specs.contracts.socket.Socket as socket
 use Rattle.call_table.proofs.laws.Crossing.{epoch_sync}
 use Rattle.service_threads.proofs.idle.IdleWorkers.TheSendSync as idle
 use Rattle.service_threads.proofs.opening.Listeners.TheSendSync as listeners

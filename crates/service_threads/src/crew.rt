@@ -1,11 +1,12 @@
 //! The threads of a proxy, how they begin, and in which order they end.
 ghost use denote.Param.Send.{IsSync};
-ghost use Rattle.service_files.specs.contracts.socket.Socket.{the_row as socket_row};
+ghost use Rattle.sockets.specs.contracts.socket.Socket.{the_row as socket_row};
 ghost use Rattle.std.specs.Prelude.{IfErr};
 ghost use Rattle.service_threads.specs.Faults.{IsSystemFault};
 
 use metrics::PageSockets;
-use service_files::{DaemonFault, ProxyFiles, Socket};
+use service_files::{DaemonFault, ProxyFiles};
+use sockets::{Socket, is_shared};
 use std::alloc::Global;
 use std::io::Print;
 use std::sync::Wait;
@@ -107,11 +108,6 @@ fn work_all<S: Sync, C: ServerThreads<S> + Sync, R: Threads + Wait + Clock + Syn
         },
     )
 }
-
-/// Shows that threads may share this value.
-pub(crate) fn is_shared<T: Sync>(_: &T)
-    ensures { IsSync T.row }
-{}
 
 /// Shows that threads may share a socket.
 fn socket_is_shared(socket: &Socket)

@@ -5,15 +5,13 @@ ghost use Rattle.service_threads.specs.Faults.{IsSystemFault};
 
 use metrics::PageSockets;
 use service_files::{
-    DaemonFault, Options, ProxyFiles, Socket, control_fault, journal_fault, metrics_fault,
+    DaemonFault, Options, ProxyFiles, control_fault, journal_fault, metrics_fault, socket_fault,
 };
 use sip_uri::Hop;
+use sockets::{Socket, SocketWaits, datagram_buffer};
 use std::alloc::{AllocError, Global};
 use std::net::{Net, TcpListener};
 use std::os::unix::net::UnixListener;
-
-/// How many bytes of a datagram are received.
-const MOST_BYTES: usize = 65_535;
 
 /// The sockets at which a proxy tells of itself.
 #[derive(Drop)]
@@ -28,7 +26,10 @@ pub(crate) struct Listeners {
 pub(crate) fn bound<R: Net>(rt: &R, own: Hop) -> Result<Socket, DaemonFault>
     ensures { IfErr result IsSystemFault }
 {
-    Socket::bind(rt, own)
+    match Socket::bind(rt, own, SocketWaits::InCalls) {
+        Ok(socket) => Ok(socket),
+        Err(error) => Err(socket_fault(error)),
+    }
 }
 
 /// Sees that the journal can be written, if there is one.
@@ -95,7 +96,7 @@ pub(crate) fn open_all<R: ProxyFiles + PageSockets>(
 pub(crate) fn buffers_of(alloc: Global, workers: usize) -> Result<Vec<Vec<u8>>, AllocError> {
     let mut buffers = Vec::new(alloc);
     for _ in 0..workers {
-        let buffer = vec![in alloc; 0u8; MOST_BYTES]?;
+        let buffer = datagram_buffer(alloc)?;
         if buffers.push(buffer).is_err() {
             return Err(AllocError);
         }

@@ -1,7 +1,7 @@
 //! The way of datagrams to the socket.
 use fork_call::{Cause, Datagram, Port};
 use metrics::{Count, DatagramCounts, SentCounts};
-use service_files::{SendOutcome, Socket};
+use sockets::{SendOutcome, Socket};
 use std::alloc::Allocator;
 
 /// A thread's way to the socket, which counts what is sent and what is not.

@@ -8,8 +8,9 @@ use crate::proxy::ServiceProxy;
 use call_affinity::{GroupClaim, group_of};
 use call_table::ThreadClock;
 use service_admission::{ServiceState, SourceLimits, admits};
-use service_files::{DaemonFault, Socket};
+use service_files::{DaemonFault, socket_fault};
 use sip_uri::Hop;
+use sockets::Socket;
 use std::alloc::Global;
 use std::sync::Wait;
 use std::time::Clock;
@@ -76,7 +77,10 @@ impl ServiceProxy {
         ensures fits { IfOk result (λ came. IfSome came (λ entered. entered.count ≤ length buffer.new)) }
         ensures fault { IfErr result IsSystemFault }
     {
-        let came = socket.receive(buffer)?;
+        let came = match socket.receive(buffer) {
+            Ok(came) => came,
+            Err(error) => return Err(socket_fault(error)),
+        };
         if self.service.is_in(ServiceState::Ended) {
             return Ok(None);
         }

@@ -8,7 +8,7 @@ ghost use Rattle.service_files.specs.Faults.{most_text, IsConfigurationFault};
 ghost use Rattle.service_threads.specs.Faults.{IsServeFault, IsServeFaultOf, IsSystemFault, Spells};
 
 use crate::control::{Control, read_config};
-use crate::crew::{ServerThreads, is_shared, run};
+use crate::crew::{ServerThreads, run};
 use crate::opening::{Listeners, bound, buffers_of, open_all};
 use crate::proxy::{ServiceProxy, StartOptions};
 use call_table::Epoch;
@@ -17,8 +17,9 @@ use fork_call::Setup;
 use libc::net;
 use libc::types::pollfd;
 use metrics::{PageSockets, answer_scrapers};
-use service_files::{DaemonFault, Options, ProxyFiles, Socket, read_setup, read_text};
+use service_files::{DaemonFault, Options, ProxyFiles, read_setup, read_text};
 use sip_uri::Hop;
+use sockets::{Socket, is_shared, print_listening};
 use std::alloc::Global;
 use std::io::Print;
 use std::net::Net;
@@ -117,13 +118,6 @@ fn server_is_shared(server: &Server)
     is_shared(server);
 }
 
-/// Tells where a proxy listens.
-fn print_listening<P: Print>(out: &P, own: Hop) {
-    let [a, b, c, d] = own.addr;
-    let port = own.port;
-    let _ = out.println(format_args!("listening {a}.{b}.{c}.{d} {port}"));
-}
-
 /// Tells where the proxy listens, and lets it run until the end.
 fn run_server<R: Threads + Wait + ProxyFiles + PageSockets + Clock + Print + Sync>(
     rt: &R,
@@ -134,7 +128,7 @@ fn run_server<R: Threads + Wait + ProxyFiles + PageSockets + Clock + Print + Syn
     ensures { IfErr result IsSystemFault }
 {
     server_is_shared(server);
-    print_listening(rt, server.proxy.own);
+    let _ = print_listening(rt, server.proxy.own);
     run(rt, server.proxy.alloc, server, socket, buffers)
 }
 

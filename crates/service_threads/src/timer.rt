@@ -3,7 +3,7 @@ use crate::port::SocketPort;
 use crate::proxy::ServiceProxy;
 use call_table::ThreadClock;
 use service_admission::ServiceState;
-use service_files::Socket;
+use sockets::Socket;
 use std::sync::Wait;
 use std::time::Clock;
 
