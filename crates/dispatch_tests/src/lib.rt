@@ -17,6 +17,8 @@ mod failing;
 #[cfg(test)]
 mod holds;
 #[cfg(test)]
+mod moments;
+#[cfg(test)]
 mod mutated;
 #[cfg(test)]
 mod noise;
@@ -26,6 +28,8 @@ mod outbox;
 mod own_port;
 #[cfg(test)]
 mod own_routes;
+#[cfg(test)]
+mod sending;
 #[cfg(test)]
 mod strays;
 #[cfg(test)]

@@ -1,6 +1,5 @@
 pub mod Handling
 pub mod Journal
-pub mod Next
 pub mod Noting
 pub mod Setups
 pub mod Waits

@@ -3,8 +3,6 @@ ghost use Rattle.std.specs.Prelude.{◌≡◌, ◌≤◌, ◌↔◌, ◌+◌, �
 ghost use Rattle.std.specs.Bool.{OnTrue};
 ghost use Rattle.call_model.specs.Due.{IsOver};
 ghost use Rattle.call_laws.specs.Quiet.{IsQuietWithoutOwed};
-ghost use Rattle.fork_model.specs.Log.{core_of};
-ghost use Rattle.proxy_service.specs.Next.{EndsBy, IsNext};
 
 use crate::answers::AnswerPort;
 use crate::notes::NoteTables;
@@ -13,6 +11,7 @@ use crate::targets::TargetSet;
 use call_laws::calls_that_are_over_are_quiet;
 use call_table::Removal;
 use fork_call::{Call, Port, carry};
+use proxy_dispatch::{NextStep, next_step};
 use std::alloc::{AllocError, Allocator};
 use std::sync::Wait;
 use std::thread;
@@ -36,18 +35,6 @@ fn step_from(moment: u64) -> u64
     moment.div_ceil(STEP).saturating_mul(STEP)
 }
 
-/// What is to be done with a call next.
-#[derive(Clone, Copy, PartialEq, Eq, Debug)]
-pub(crate) enum NextStep {
-    /// It is carried at this moment, in milliseconds.
-    At(u64),
-    Nothing,
-    /// It is over: the status with which it failed; None where it was answered with a 2xx.
-    Over(Option<u16>),
-    /// It lacked memory.
-    Refused,
-}
-
 /// A look at a call at a moment, in milliseconds, and whether it is the first one.
 #[derive(Clone, Copy)]
 struct Visit {
@@ -60,27 +47,6 @@ fn seconds<R: Clock>(rt: &R) -> u64 {
     match SystemTime::UNIX_EPOCH.elapsed(rt) {
         Ok(passed) => passed.as_secs(),
         Err(_) => 0,
-    }
-}
-
-/// The status with which a call that is over failed; None where it was answered with a 2xx.
-fn failure_of<A: Allocator + Clone>(call: &Call<A>) -> Option<u16>
-    ensures { EndsBy (core_of call.now.log) result }
-{
-    match call.book().context().choice_with_status() {
-        Some((_, status)) => Some(status),
-        None => None,
-    }
-}
-
-/// What is to be done next with a call that was carried.
-fn after_carry<A: Allocator + Clone>(call: &Call<A>) -> NextStep
-    ensures { IsNext call.now result }
-{
-    match call.due() {
-        Some(due) => NextStep::At(due),
-        None if call.over() => NextStep::Over(failure_of(call)),
-        None => NextStep::Nothing,
     }
 }
 
@@ -154,18 +120,22 @@ impl<A: Allocator + Copy> Service<A> {
         }
     }
 
-    /// What is to be done next with a call that was carried. Of one that is over the block for the journal is appended, if there is a
+    /// Counts a call that was carried where each of its branches has ended. Of one that is over the block for the journal is appended, if there is a
     /// journal, or nothing for want of memory.
-    fn left<R: Wait + Clock>(&self, rt: &R, call: &Call<A>, block: &mut Vec<u8, A>) -> NextStep
-        ensures { IsNext call.now result }
-    {
-        let next = after_carry(call);
-        if !matches!(next, NextStep::Over(_)) {
-            self.count_finished(call);
-        } else if self.terms.has_journal {
-            let _ = self.calls.notes.append_block(rt, call, seconds(rt), block);
+    fn note_step<R: Wait + Clock>(
+        &self,
+        rt: &R,
+        call: &Call<A>,
+        next: NextStep,
+        block: &mut Vec<u8, A>,
+    ) {
+        match next {
+            NextStep::At(_) | NextStep::Nothing => self.count_finished(call),
+            NextStep::Over(_) if self.terms.has_journal => {
+                let _ = self.calls.notes.append_block(rt, call, seconds(rt), block);
+            }
+            NextStep::Over(_) | NextStep::Refused => {}
         }
-        next
     }
 
     /// Notes it where a 2xx went up to an INVITE.
@@ -210,11 +180,8 @@ impl<A: Allocator + Copy> Service<A> {
         let carried = carry(call, &mut answers, now);
         self.note_answer(call, answers.has_answered, now);
         self.note_call(rt, call, visit, answers.cancels);
-        let next = match carried {
-            Ok(carried) if !carried.more => self.left(rt, call, block),
-            Ok(_) => NextStep::At(now),
-            Err(AllocError) => NextStep::Refused,
-        };
+        let next = next_step(call, carried, now);
+        self.note_step(rt, call, next, block);
         self.schedule_next(rt, call.number(), next, now);
         next
     }

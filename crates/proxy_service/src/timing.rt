@@ -2,13 +2,11 @@
 use crate::calls::Search;
 use crate::service::Service;
 use fork_call::Port;
+use proxy_dispatch::{carry_due, carry_from};
 use service_admission::Seen;
 use std::alloc::Allocator;
 use std::sync::Wait;
 use std::time::Clock;
-
-/// How many calls are carried before the time is read anew.
-const MOST_CARRIED: u32 = 4_096;
 
 impl<A: Allocator + Copy> Service<A> {
     /// Where a deadline was missed, goes on with the walk over all calls: each is carried, at most 4,096 at a time.
@@ -19,29 +17,26 @@ impl<A: Allocator + Copy> Service<A> {
             walk.note(is_missed, now);
             walk.due(now)
         };
-        let Some(mut from) = due else {
+        let Some(from) = due else {
             return;
         };
-        for _ in 0..MOST_CARRIED {
-            let Some(number) = self.calls.shelf.next_from(rt, from) else {
-                return self.calls.walk.lock(rt).finish(now);
-            };
-            self.carry(rt, port, number, now);
-            from = number.saturating_add(1);
+        let left = carry_from(rt, &self.calls.shelf, from, |number| {
+            self.carry(rt, port, number, now)
+        });
+        let mut walk = self.calls.walk.lock(rt);
+        match left {
+            Some(next) => walk.pass(next),
+            None => walk.finish(now),
         }
-        self.calls.walk.lock(rt).pass(from);
     }
 
     /// Carries the calls that are due by now, in milliseconds, at most 4,096 of them; the others wait until the time is read anew.
     pub fn tick<R: Wait + Clock, P: Port>(&self, rt: &R, port: &mut P, now: u64) {
         self.walk_on(rt, port, now);
-        for _ in 0..MOST_CARRIED {
-            let Some(number) = self.calls.schedule.take_due(rt, now) else {
-                return;
-            };
+        carry_due(rt, &self.calls.schedule, now, |number| {
             self.counts.calls.timers.add(1);
             self.carry(rt, port, number, now);
-        }
+        });
     }
 
     /// Ends a service that drains where its time has come, and answers until when the thread that keeps the time may sleep where nothing is

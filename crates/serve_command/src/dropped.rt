@@ -1,5 +1,8 @@
 //! Notes of what is dropped.
+use fork_call::Cause;
 use log::{Log, warn};
+use proxy_dispatch::SendCounter;
+use sockets::SendOutcome;
 use std::sync::atomic::{AtomicU64, Ordering};
 
 /// How much of one kind was dropped.
@@ -22,6 +25,22 @@ impl Dropped {
         let count = self.count.fetch_add(1, Ordering::SeqCst).wrapping_add(1);
         if count.is_power_of_two() {
             warn!(rt; "{what}: {count} so far");
+        }
+    }
+}
+
+/// Notes the datagrams that the system refuses to send.
+#[derive(Drop)]
+pub(crate) struct RefusedSends<'a, R> {
+    pub(crate) rt: &'a R,
+    pub(crate) unsent: &'a Dropped,
+}
+
+impl<R: Log> SendCounter for RefusedSends<'_, R> {
+    fn count(&self, _cause: Cause, outcome: SendOutcome) {
+        if outcome == SendOutcome::Refused {
+            self.unsent
+                .note(self.rt, "datagrams that the system refused to send");
         }
     }
 }

@@ -8,7 +8,6 @@ mod ending;
 mod fault;
 mod job;
 mod jobs;
-mod port;
 mod receiver;
 mod serving;
 mod turns;

@@ -15,7 +15,7 @@ use crate::worker::TurnProxy;
 use call_table::Inbox;
 use fork_call::Setup;
 use log::Log;
-use sip_uri::Hop;
+use proxy_dispatch::own_of;
 use sockets::{Socket, SocketWaits, datagram_buffer, is_shared, print_listening};
 use std::alloc::Global;
 use std::io::Print;
@@ -167,12 +167,6 @@ fn server_of<R: Net>(rt: &R, alloc: Global, setup: Setup) -> Result<TurnServer, 
     };
     let proxy = TurnProxy::new(alloc, setup, socket)?;
     Ok(TurnServer { proxy })
-}
-
-/// The address that a setup names.
-fn own_of(setup: &Setup) -> Hop {
-    let own = setup.own();
-    Hop::over_udp(own.addr, own.port)
 }
 
 /// Tells where a proxy listens.

@@ -1,33 +1,22 @@
 //! What the workers of a proxy do: two handle datagrams, one does what is due.
 ghost use Rattle.std.specs.Prelude.{◌≡◌};
 
-use crate::dropped::Dropped;
+use crate::dropped::{Dropped, RefusedSends};
 use crate::job::Job;
 use crate::jobs::JobReceiver;
-use crate::port::TurnPort;
 use call_table::{Schedule, Shelf};
 use fork_call::{Call, Port, Setup, carry};
 use log::Log;
-use proxy_dispatch::{Handled, Received, SharedCalls, Unlimited, handle};
+use proxy_dispatch::{
+    Handled, NextStep, ReadyMemory, Received, SharedCalls, SocketPort, Unlimited, carry_due,
+    carry_from, handle, next_step,
+};
 use sockets::Socket;
 use std::alloc::{AllocError, Allocator, Global};
 use std::sync::Wait;
 
-/// How many calls one tick carries at most.
-const MOST_CARRIED: u32 = 4_096;
-
-/// How many bytes of memory a worker has the allocator hold ready.
-const READY: usize = 8_388_608;
-
-/// After how many jobs a worker asks again: so many jobs keep less than the memory that is held ready.
-const JOBS_BETWEEN: u32 = 256;
-
-/// Asks the allocator for memory and gives it back, so that the allocator holds some ready for what a worker keeps.
-/// Else the C library gets each page of a thread's memory by a system call of its own.
-fn hold_ready<A: Allocator>(alloc: A) {
-    let asked: Result<Vec<u8, A>, AllocError> = Vec::with_capacity(alloc, READY);
-    drop(asked);
-}
+/// How many milliseconds pass until a call that lacked memory is carried again.
+const AGAIN: u64 = 1;
 
 /// What the threads of a proxy share.
 #[derive(Drop)]
@@ -45,14 +34,15 @@ pub(crate) struct TurnProxy<A: Allocator + Clone = Global> {
     pub(crate) unsent: Dropped,
 }
 
-/// Carries a call, and answers when something is to be done next.
+/// Carries a call, and answers when it is to be carried next; None where it is not.
 fn carried<A: Allocator + Clone, P: Port>(call: &mut Call<A>, port: &mut P, now: u64) -> Option<u64>
     ensures { call.new.opened.number ≡ call.old.opened.number }
 {
-    match carry(call, port, now) {
-        Ok(carried) if !carried.more => call.due(),
-        Ok(_) => Some(now),
-        Err(AllocError) => Some(now.saturating_add(1)),
+    let carried = carry(call, port, now);
+    match next_step(call, carried, now) {
+        NextStep::At(due) => Some(due),
+        NextStep::Refused => Some(now.saturating_add(AGAIN)),
+        NextStep::Nothing | NextStep::Over(_) => None,
     }
 }
 
@@ -107,46 +97,41 @@ impl<A: Allocator + Clone> TurnProxy<A> {
 
     /// Carries every call: the moment of one could not be added to the schedule.
     fn carry_all<R: Wait, P: Port>(&self, rt: &R, port: &mut P, now: u64) {
-        for number in 0..self.calls.count(rt) {
-            self.carry(rt, port, number, now);
+        let mut from = 0;
+        for _ in rt.forever() {
+            let left = carry_from(rt, &self.calls, from, |number| {
+                self.carry(rt, port, number, now)
+            });
+            match left {
+                Some(next) => from = next,
+                None => return,
+            }
         }
+        unreachable!()
     }
 
-    /// Carries the calls that are due by now, at most 4,096 of them; the others wait for the next tick.
+    /// Carries the calls that are due by now; those that are too many for one tick wait for the next one.
     fn tick<R: Wait, P: Port>(&self, rt: &R, port: &mut P, now: u64) {
         if self.schedule.take_missed() {
             self.carry_all(rt, port, now);
         }
-        for _ in 0..MOST_CARRIED {
-            let Some(number) = self.schedule.take_due(rt, now) else {
-                return;
-            };
-            self.carry(rt, port, number, now);
-        }
+        carry_due(rt, &self.schedule, now, |number| {
+            self.carry(rt, port, number, now)
+        });
     }
 
-    /// Notes each send that the system refused since `noted` refused sends were noted, and answers how many it has refused.
-    fn note_unsent<R: Log>(&self, rt: &R, noted: u64, failures: u64) -> u64 {
-        for _ in noted..failures {
-            self.unsent
-                .note(rt, "datagrams that the system refused to send");
-        }
-        failures
+    /// A worker's way to the socket.
+    fn port<'a, R: Log>(&'a self, rt: &'a R) -> SocketPort<'a, RefusedSends<'a, R>> {
+        let unsent = &self.unsent;
+        SocketPort::new(&self.socket, RefusedSends { rt, unsent })
     }
 
     /// Does the jobs that a worker is given, until the end job.
     pub(crate) fn work<R: Wait + Log>(&self, rt: &R, mut jobs: JobReceiver<'_, Job<A>, A>) {
-        let mut port = TurnPort::new(&self.socket);
-        let mut left = 0u32;
-        let mut noted = 0u64;
+        let mut port = self.port(rt);
+        let mut ready = ReadyMemory::new();
         for _ in rt.forever() {
-            if left == 0 {
-                if let Ok(alloc) = self.alloc.clone() {
-                    hold_ready(alloc);
-                }
-                left = JOBS_BETWEEN;
-            }
-            left = left.wrapping_sub(1);
+            ready.hold(&self.alloc);
             match jobs.receive(rt) {
                 Job::Packet { bytes, source, now } => {
                     let received = Received {
@@ -159,7 +144,6 @@ impl<A: Allocator + Clone> TurnProxy<A> {
                 Job::Tick(now) => self.tick(rt, &mut port, now),
                 Job::Finish => return,
             }
-            noted = self.note_unsent(rt, noted, port.failures());
         }
         unreachable!()
     }

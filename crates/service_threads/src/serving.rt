@@ -17,6 +17,7 @@ use fork_call::Setup;
 use libc::net;
 use libc::types::pollfd;
 use metrics::{PageSockets, answer_scrapers};
+use proxy_dispatch::own_of;
 use service_files::{DaemonFault, Options, ProxyFiles, read_setup, read_text};
 use sip_uri::Hop;
 use sockets::{Socket, is_shared, print_listening};
@@ -130,12 +131,6 @@ fn run_server<R: Threads + Wait + ProxyFiles + PageSockets + Clock + Print + Syn
     server_is_shared(server);
     let _ = print_listening(rt, server.proxy.own);
     run(rt, server.proxy.alloc, server, socket, buffers)
-}
-
-/// The address that a setup names.
-fn own_of(setup: &Setup<Global>) -> Hop {
-    let own = setup.own();
-    Hop::over_udp(own.addr, own.port)
 }
 
 /// A proxy without a call at this address, with its control socket, the address for scrapers and the journal: what options name is opened last,

@@ -1,5 +1,5 @@
 //! The thread that keeps the time of calls.
-use crate::port::SocketPort;
+use crate::port::service_port;
 use crate::proxy::ServiceProxy;
 use call_table::ThreadClock;
 use service_admission::ServiceState;
@@ -12,7 +12,7 @@ impl ServiceProxy {
     fn keep_time_until_end<'a, R: Wait + Clock>(&'a self, rt: &R, socket: &'a Socket) {
         let service = &self.service;
         let counts = &service.counts().datagrams;
-        let mut port = SocketPort::new(socket, counts, &counts.timed);
+        let mut port = service_port(socket, counts, &counts.timed);
         let mut watch = ThreadClock::new(self.epoch);
         for _ in rt.forever() {
             let now = watch.micros(rt) / 1_000;

@@ -2,26 +2,19 @@
 ghost use Rattle.std.specs.Prelude.{◌≤◌, length, IfErr, IfOk, IfSome};
 ghost use Rattle.service_threads.specs.Faults.{IsSystemFault};
 
-use crate::port::SocketPort;
+use crate::port::{ServicePort, service_port};
 use crate::proxy::ServiceProxy;
 use crate::receiving::ClaimedDatagram;
 use call_table::ThreadClock;
 use fork_call::Port;
-use proxy_dispatch::Received;
+use proxy_dispatch::{ReadyMemory, Received};
 use service_admission::ServiceState;
 use service_files::DaemonFault;
 use sip_uri::Hop;
 use sockets::Socket;
-use std::alloc::{AllocError, Global};
 use std::hint::spin_loop;
 use std::sync::Wait;
 use std::time::Clock;
-
-/// How many bytes of memory a worker has the allocator hold ready.
-const READY: usize = 8_388_608;
-
-/// After how many datagrams a worker asks again: so many keep less than the memory that is held ready.
-const DATAGRAMS_BETWEEN: u32 = 256;
 
 /// How often a worker looks whether another one still receives before it is idle. Together the looks take as long as a receive does where a
 /// datagram waits.
@@ -37,23 +30,9 @@ fn pause() {
 /// What a worker keeps from one datagram to the next.
 #[derive(Drop)]
 struct WorkerState<'a> {
-    port: SocketPort<'a>,
+    port: ServicePort<'a>,
     watch: ThreadClock,
-    /// How many datagrams it handles until it has the allocator hold memory ready again.
-    left: u32,
-}
-
-impl WorkerState<'_> {
-    /// Counts a datagram, and asks the allocator for memory where it is time, which is given back at once: so the allocator holds some
-    /// ready for what the worker keeps. Else the C library gets each page of a thread's memory by a system call of its own.
-    fn hold_ready(&mut self, alloc: Global) {
-        if self.left == 0 {
-            let asked: Result<Vec<u8>, AllocError> = Vec::with_capacity(alloc, READY);
-            drop(asked);
-            self.left = DATAGRAMS_BETWEEN;
-        }
-        self.left = self.left.wrapping_sub(1);
-    }
+    ready: ReadyMemory,
 }
 
 impl ServiceProxy {
@@ -101,7 +80,7 @@ impl ServiceProxy {
     )
         requires { entered.count ≤ length buffer.now }
     {
-        state.hold_ready(self.alloc);
+        state.ready.hold(&self.alloc);
         let bytes = &buffer[..entered.count];
         let (port, watch) = (&mut state.port, &mut state.watch);
         self.handle_timed(rt, port, watch, bytes, entered.source);
@@ -166,9 +145,9 @@ impl ServiceProxy {
     {
         let counts = &self.service.counts().datagrams;
         let mut state = WorkerState {
-            port: SocketPort::new(socket, counts, &counts.sent),
+            port: service_port(socket, counts, &counts.sent),
             watch: ThreadClock::new(self.epoch),
-            left: 0,
+            ready: ReadyMemory::new(),
         };
         for _ in rt.forever() {
             if self.service.is_in(ServiceState::Ended) {
