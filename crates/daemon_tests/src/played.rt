@@ -357,7 +357,8 @@ impl<A: Allocator + Copy> Played<A> {
     /// Whether this is told of the calls that are open, from this number on.
     fn tells<R: Wait>(&self, rt: &R, now: u64, first: u64, text: &str) -> bool {
         let mut told = Vec::new(self.alloc);
-        match self.service.append_calls(rt, first, now, &mut told) {
+        let calls = self.service.calls();
+        match calls.append_calls(rt, first, now, &mut told) {
             Ok(()) => told.as_slice() == text.as_bytes(),
             Err(_) => false,
         }
@@ -366,7 +367,8 @@ impl<A: Allocator + Copy> Played<A> {
     /// Whether this is told of the call of this number.
     fn tells_of<R: Wait>(&self, rt: &R, now: u64, number: u64, text: &str) -> bool {
         let mut told = Vec::new(self.alloc);
-        match self.service.append_call(rt, number, now, &mut told) {
+        let calls = self.service.calls();
+        match calls.append_call(rt, number, now, &mut told) {
             Ok(()) => told.as_slice() == text.as_bytes(),
             Err(_) => false,
         }
@@ -416,7 +418,8 @@ impl<A: Allocator + Copy> Played<A> {
             Turn::Sleeps(until) => self.until == until,
             Turn::Reloads(text, expected) => self.service.reload(rt, text) == expected,
             Turn::Keeps(held, opened) => {
-                self.service.held(rt) == held && self.service.opened(rt) == opened
+                let calls = self.service.calls();
+                calls.held(rt) == held && calls.opened(rt) == opened
             }
             Turn::Told(first, text) => self.tells(rt, now, first, text),
             Turn::ToldOf(number, text) => self.tells_of(rt, now, number, text),

@@ -26,9 +26,13 @@ pub(crate) enum Search {
     Unfinished,
 }
 
-/// The calls that are kept, and when each is looked at.
+/// The calls of a service: they are kept, carried when they are due, told of, and forgotten once they are over.
 #[derive(Drop)]
-pub(crate) struct ServiceCalls<A: Allocator + Copy> {
+pub struct ServiceCalls<A: Allocator + Copy = Global> {
+    /// The allocator of calls and their deadlines, and of what is written of them.
+    pub(crate) alloc: A,
+    /// The allocator of what is told of them.
+    pub(crate) heap: Global,
     pub(crate) shelf: Shelf<Call<A>, A>,
     pub(crate) schedule: Schedule<A>,
     /// The calls that were counted as finished.
@@ -61,6 +65,8 @@ impl<A: Allocator + Copy> ServiceCalls<A> {
         let schedule = Schedule::new(alloc)?;
         let finished = Marks::new(heap)?;
         Ok(ServiceCalls {
+            alloc,
+            heap,
             shelf,
             schedule,
             finished,
@@ -69,6 +75,21 @@ impl<A: Allocator + Copy> ServiceCalls<A> {
             notes: NoteTables::new(heap)?,
             unopened: AtomicU64::new(0),
         })
+    }
+
+    /// When calls are due, to sleep on and to wake.
+    pub fn schedule(&self) -> &Schedule<A> {
+        &self.schedule
+    }
+
+    /// How many calls are kept.
+    pub fn held<R: Wait>(&self, rt: &R) -> u64 {
+        self.shelf.held(rt)
+    }
+
+    /// How many calls were opened.
+    pub fn opened<R: Wait>(&self, rt: &R) -> u64 {
+        self.shelf.count(rt)
     }
 
     /// Looks for a call that is open, from where the last look came to an end; at most 4,096 of them. A call that is not open stays so, but

@@ -5,9 +5,12 @@ ghost use Rattle.proxy_service.specs.Journal.{WritesDown};
 
 use call_journal::{CallRecord, Note, append_call};
 use fork_call::Call;
+use metrics::CallCounts;
+use service_files::JournalQueue;
 use sip_route::{first_value, request_uri};
 use sip_text::Message;
 use std::alloc::{AllocError, Allocator};
+use std::sync::Wait;
 
 /// The method of a request.
 fn method_of<A: Allocator>(request: &Message<A>) -> &[u8]
@@ -40,4 +43,16 @@ pub fn append_block<A: Allocator + Clone>(
         call_id: request.call_id(),
     };
     append_call(block, &head, call.book().context(), notes)
+}
+
+/// Has a block written to the journal, or counts it as unwritten. An empty block is one for which there was no memory.
+pub(crate) fn write_down<R: Wait>(
+    rt: &R,
+    journal: &JournalQueue,
+    counts: &CallCounts,
+    block: &[u8],
+) {
+    if block.is_empty() || journal.push(rt, block).is_err() {
+        counts.unwritten.add(1);
+    }
 }

@@ -2,25 +2,33 @@
 //! call, what is due behind each, which calls are forgotten and written down, and when a service that is told to stop ends. It sends by
 //! whichever port it is handed; there is no socket, no thread and no file here.
 //!
+//! A [`Service`] has three parts: by what it goes (`settings`), for which requests it opens calls, and until when it serves (`admission`), and the
+//! calls that it keeps ([`ServiceCalls`]), each of which is looked at by a `Visit`.
+//!
 //! Begin with `Service::take` and `Service::tick`.
 #![tactic(auto)]
 
+mod admission;
 mod answers;
 mod calls;
 mod carrying;
 mod journal;
+mod leaving;
 mod marks;
 mod notes;
 mod refusals;
 mod service;
+mod settings;
 mod setup;
 mod shown;
 mod taking;
 mod targets;
 mod terms;
 mod timing;
+mod visit;
 mod walk;
 
+pub use calls::ServiceCalls;
 pub use journal::append_block;
 pub use marks::Marks;
 pub use service::Service;

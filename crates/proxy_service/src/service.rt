@@ -1,15 +1,17 @@
 //! What the threads of a service share.
+use crate::admission::ServiceAdmission;
 use crate::calls::ServiceCalls;
-use crate::setup::{service_setup, setup_of};
+use crate::settings::CurrentSettings;
+use crate::setup::setup_of;
 use crate::terms::RunSettings;
-use call_table::Schedule;
+use crate::visit::Visit;
 use fork_call::Setup;
 use metrics::{Counts, Gauges};
-use service_admission::{Lifetime, Quota, ServiceState};
+use service_admission::ServiceState;
 use service_files::{DaemonFault, JournalQueue};
 use std::alloc::{AllocError, Allocator, Global};
 use std::mem;
-use std::sync::{RwLock, Wait};
+use std::sync::Wait;
 
 /// How many milliseconds a second has.
 const MILLIS: u64 = 1_000;
@@ -18,16 +20,14 @@ const MILLIS: u64 = 1_000;
 /// for the one thread that keeps the time.
 #[derive(Drop)]
 pub struct Service<A: Allocator + Copy = Global> {
-    /// The allocator of calls and their deadlines, of the configuration, and of what is made while a datagram is handled.
+    /// The allocator of the configuration, and of what is made while a datagram is handled.
     pub(crate) alloc: A,
-    /// The allocator of all else.
-    pub(crate) heap: Global,
-    pub(crate) setup: RwLock<Setup<A>>,
-    pub(crate) terms: RunSettings,
+    /// The allocator of what is told.
+    heap: Global,
+    pub(crate) settings: CurrentSettings<A>,
+    pub(crate) admission: ServiceAdmission,
     pub(crate) calls: ServiceCalls<A>,
-    pub(crate) quota: Quota,
-    pub(crate) lifetime: Lifetime,
-    pub(crate) journal: JournalQueue,
+    journal: JournalQueue,
     pub(crate) counts: Counts,
 }
 
@@ -48,19 +48,17 @@ impl<A: Allocator + Copy> Service<A> {
         Ok(Service {
             alloc,
             heap,
-            setup: RwLock::new(service_setup(setup, &terms)),
-            terms,
+            settings: CurrentSettings::new(setup, terms),
+            admission: ServiceAdmission::new(terms.most_calls),
             calls,
-            quota: Quota::new(terms.most_calls),
-            lifetime: Lifetime::new(),
             journal: JournalQueue::new(heap),
             counts: Counts::new(),
         })
     }
 
-    /// When calls are due, to sleep on and to wake.
-    pub fn schedule(&self) -> &Schedule<A> {
-        &self.calls.schedule
+    /// The calls that it keeps.
+    pub fn calls(&self) -> &ServiceCalls<A> {
+        &self.calls
     }
 
     /// What it has counted since its start, to count on and to read: each counter may be added to by any thread.
@@ -73,23 +71,43 @@ impl<A: Allocator + Copy> Service<A> {
         &self.journal
     }
 
+    /// Where calls are written down at their end, if they are.
+    pub(crate) fn kept_journal(&self) -> Option<&JournalQueue> {
+        if self.settings.terms.has_journal {
+            Some(&self.journal)
+        } else {
+            None
+        }
+    }
+
+    /// A look at a call at this moment, in milliseconds.
+    pub(crate) fn visit(&self, now: u64) -> Visit<'_> {
+        Visit {
+            now,
+            is_first: false,
+            admission: &self.admission,
+            journal: self.kept_journal(),
+            counts: &self.counts.calls,
+        }
+    }
+
     /// Begins the end, which comes within so many seconds of `now`, in milliseconds: from now on OPTIONS and requests outside of dialogs are
     /// answered 503. Where it has begun before, it comes within the seconds that are said now.
     pub fn drain(&self, now: u64, seconds: u64) {
-        self.lifetime.drain(now, seconds);
-        self.calls.schedule.wake();
+        self.admission.lifetime.drain(now, seconds);
+        self.calls.schedule().wake();
     }
 
     /// Ends, and wakes the thread that keeps the time.
     pub fn end(&self) {
-        self.lifetime.end();
-        self.calls.schedule.wake();
+        self.admission.lifetime.end();
+        self.calls.schedule().wake();
     }
 
     /// Whether it stands so at this moment: it serves until `drain` or `end` is called, drains until `next_look` or `end` ends it, and has
     /// ended from then on.
     pub fn is_in(&self, state: ServiceState) -> bool {
-        self.lifetime.is_in(state)
+        self.admission.lifetime.is_in(state)
     }
 
     /// Goes by the configuration that a text spells; calls keep what they were opened with.
@@ -99,8 +117,8 @@ impl<A: Allocator + Copy> Service<A> {
     /// `TooLong` over 1,048,576 bytes; `Line` with the first malformed line; `Identity` where it has another address or instance; `NoMemory`
     /// where the allocator refuses. Then the configuration before stays.
     pub fn reload<R: Wait>(&self, rt: &R, text: &[u8]) -> Result<(), DaemonFault> {
-        let setup = setup_of(self.alloc, text, &self.terms)?;
-        let old = mem::replace(&mut *self.setup.write(rt), setup);
+        let setup = setup_of(self.alloc, text, &self.settings.terms)?;
+        let old = mem::replace(&mut *self.settings.setup.write(rt), setup);
         // Its memory is given back here, where no lock is held.
         drop(old);
         Ok(())
@@ -119,19 +137,9 @@ impl<A: Allocator + Copy> Service<A> {
     ) -> Result<Vec<u8>, AllocError> {
         let gauges = Gauges {
             seconds: now / MILLIS,
-            held: self.held(rt),
+            held: self.calls.held(rt),
             resident,
         };
         self.counts.text(self.heap, gauges)
-    }
-
-    /// How many calls it keeps.
-    pub fn held<R: Wait>(&self, rt: &R) -> u64 {
-        self.calls.shelf.held(rt)
-    }
-
-    /// How many calls it has opened.
-    pub fn opened<R: Wait>(&self, rt: &R) -> u64 {
-        self.calls.shelf.count(rt)
     }
 }

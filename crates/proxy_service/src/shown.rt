@@ -1,9 +1,8 @@
 //! What an operator is told of the calls that are kept.
 ghost use Rattle.std.specs.Prelude.{◌≡◌, ◌≤◌, IfOk};
 
-use crate::calls::is_open;
+use crate::calls::{ServiceCalls, is_open};
 use crate::notes::NoteTables;
-use crate::service::Service;
 use call_journal::{BranchTimes, CallShown, append_branch_line, append_call_line};
 use fork_call::Call;
 use sip_lex::append_decimal;
@@ -106,10 +105,10 @@ fn append_branches<R: Wait, A: Allocator + Clone>(
     Ok(())
 }
 
-impl<A: Allocator + Copy> Service<A> {
+impl<A: Allocator + Copy> ServiceCalls<A> {
     /// For how many milliseconds a call is open at this moment, if that is known.
     fn age<R: Wait>(&self, rt: &R, number: u64, now: u64) -> Option<u64> {
-        Some(now.saturating_sub(self.calls.notes.opened(rt, number)?))
+        Some(now.saturating_sub(self.notes.opened(rt, number)?))
     }
 
     /// Appends the line of the call of this number and those of its branches.
@@ -123,7 +122,7 @@ impl<A: Allocator + Copy> Service<A> {
         ensures { call.new.opened.number ≡ call.old.opened.number }
     {
         append_line(self.heap, call, self.age(rt, call.number(), now), out)?;
-        append_branches(rt, &self.calls.notes, call, now, out)
+        append_branches(rt, &self.notes, call, now, out)
     }
 
     /// Appends a line for each call that is open, from this number on, by number, at most 256 of them, and at last `no more`, or `more from
@@ -143,7 +142,7 @@ impl<A: Allocator + Copy> Service<A> {
         let mut from = first;
         let mut lines = 0;
         for _ in 0..MOST_LOOKED {
-            let Some(number) = self.calls.shelf.next_from(rt, from) else {
+            let Some(number) = self.shelf.next_from(rt, from) else {
                 return out.extend_from_slice(b"no more\n");
             };
             from = number;
@@ -171,7 +170,6 @@ impl<A: Allocator + Copy> Service<A> {
         let heap = self.heap;
         let age = self.age(rt, number, now);
         match self
-            .calls
             .shelf
             .with(rt, number, |call| append_if_open(heap, call, age, out))
         {
@@ -194,7 +192,7 @@ impl<A: Allocator + Copy> Service<A> {
         now: u64,
         out: &mut Vec<u8>,
     ) -> Result<(), AllocError> {
-        let shelf = &self.calls.shelf;
+        let shelf = &self.shelf;
         if let Some(appended) = shelf.with(
             rt,
             number,

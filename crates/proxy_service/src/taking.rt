@@ -1,8 +1,9 @@
 //! What a service does with a datagram.
 use crate::service::Service;
+use crate::visit::Visit;
 use fork_call::Port;
 use proxy_dispatch::{Handled, Received, SharedCalls, handle};
-use service_admission::{QuotaAt, is_keep_alive};
+use service_admission::is_keep_alive;
 use std::alloc::{AllocError, Allocator};
 use std::sync::Wait;
 use std::time::Clock;
@@ -15,12 +16,8 @@ impl<A: Allocator + Copy> Service<A> {
         port: &mut P,
         received: Received<'_>,
     ) -> Result<Handled, AllocError> {
-        let places = QuotaAt {
-            quota: &self.quota,
-            lifetime: &self.lifetime,
-            now: received.now,
-        };
-        let setup = self.setup.read(rt);
+        let places = self.admission.at(received.now);
+        let setup = self.settings.setup.read(rt);
         let mut calls = SharedCalls::new(&self.calls.shelf);
         handle(rt, self.alloc, &mut calls, &*setup, &places, received, port)
     }
@@ -29,13 +26,18 @@ impl<A: Allocator + Copy> Service<A> {
     fn settle<R: Wait + Clock, P: Port>(&self, rt: &R, port: &mut P, handled: Handled, now: u64) {
         match handled {
             Handled::Opened(number) => {
-                self.quota.settle();
+                self.admission.quota.settle();
                 self.counts.calls.opened.add(1);
-                self.carry_opened(rt, port, number, now);
+                let is_first = true;
+                let visit = Visit {
+                    is_first,
+                    ..self.visit(now)
+                };
+                self.calls.carry(rt, port, number, &visit);
             }
             Handled::Delivered(number) => {
                 self.counts.datagrams.delivered.add(1);
-                self.carry(rt, port, number, now);
+                self.calls.carry(rt, port, number, &self.visit(now));
             }
             Handled::Answered(status) => self.counts.datagrams.answered.add(status),
             Handled::TurnedAway => self.counts.datagrams.turned_away.add(1),
@@ -59,7 +61,7 @@ impl<A: Allocator + Copy> Service<A> {
             Ok(handled) => self.settle(rt, port, handled, received.now),
             Err(AllocError) => {
                 self.counts.datagrams.no_memory.add(1);
-                self.note_refusal(received.now);
+                self.admission.quota.close(received.now);
             }
         }
     }

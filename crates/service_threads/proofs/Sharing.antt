@@ -16,9 +16,11 @@ use Rattle.service_threads.proofs.idle.IdleWorkers.TheSendSync as idle
 use Rattle.service_threads.proofs.opening.Listeners.TheSendSync as listeners
 use Rattle.call_affinity.proofs.packet.Packet.TheSendSync as packet
 use Rattle.service_threads.proofs.proxy.Paths.TheSendSync as paths
+use Rattle.service_threads.proofs.writer.JournalWriter.TheSendSync as journal
 use Rattle.call_affinity.specs.contracts.groups.CallGroups as groups
 use Rattle.call_affinity.specs.contracts.packet.Packet.{the_row as packet_row}
 use Rattle.service_threads.specs.contracts.proxy.ServiceProxy as proxy
+use Rattle.service_threads.specs.contracts.receiving.Receiving as receiving
 use Rattle.service_threads.specs.contracts.serving.Server as server
 use Rattle.proxy_service.proofs.laws.Crossing.{service_sync}
 use Rattle.sip_uri.proofs.hop.Hop.TheSendSync as hop
@@ -35,6 +37,12 @@ groups_sync : IsSync groups.the_field.row
 groups_sync = struct_sync (shape groups.the_type)
     (search (crosses, group_send), (search (crosses, group_send), (search (crosses, room.the_send), tt)))
 
+receiving_sync : IsSync receiving.the_field.row
+receiving_sync = struct_sync (shape receiving.the_type) (
+  heap.the_field_sync,
+  (search (crosses, option.the_send, source_send), (idle.the_field_sync, (groups_sync, tt))),
+)
+
 proxy_sync : IsSync proxy.the_field.row
 proxy_sync = struct_sync (shape proxy.the_type) (
   heap.the_field_sync,
@@ -42,16 +50,7 @@ proxy_sync = struct_sync (shape proxy.the_type) (
     search service_sync,
     (
       hop.the_field_sync,
-      (
-        epoch_sync,
-        (
-          search (crosses, option.the_send, source_send),
-          (
-            idle.the_field_sync,
-            (groups_sync, (paths.the_field_sync, (search (crosses, sendable), tt))),
-          ),
-        ),
-      ),
+      (epoch_sync, (receiving_sync, (journal.the_field_sync, (paths.the_field_sync, tt)))),
     ),
   ),
 )

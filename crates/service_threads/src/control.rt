@@ -92,7 +92,8 @@ impl<'a, R: Wait + Clock + ProxyFiles> ControlHandler for Control<'a, R> {
         let proxy = self.proxy;
         let mut text = Vec::new(proxy.alloc);
         let now = proxy.millis(self.rt);
-        proxy.service.append_calls(self.rt, from, now, &mut text)?;
+        let calls = proxy.service.calls();
+        calls.append_calls(self.rt, from, now, &mut text)?;
         Ok(text)
     }
 
@@ -100,7 +101,8 @@ impl<'a, R: Wait + Clock + ProxyFiles> ControlHandler for Control<'a, R> {
         let proxy = self.proxy;
         let mut text = Vec::new(proxy.alloc);
         let now = proxy.millis(self.rt);
-        proxy.service.append_call(self.rt, number, now, &mut text)?;
+        let calls = proxy.service.calls();
+        calls.append_call(self.rt, number, now, &mut text)?;
         Ok(text)
     }
 

@@ -1,50 +1,56 @@
-//! How a worker comes by a datagram. One worker at a time receives. Before it lets the next one receive, it enters the datagram's group of
-//! calls, or hands the datagram over to the worker that is on that group; so what comes of one call is handled in the order in which it came.
-//! It lets the next one receive where one more datagram waits.
-ghost use Rattle.std.specs.Prelude.{◌≤◌, length, IfErr, IfOk, IfSome};
-ghost use Rattle.service_threads.specs.Faults.{IsSystemFault};
-
-use crate::proxy::ServiceProxy;
-use call_affinity::{GroupClaim, group_of};
-use call_table::ThreadClock;
-use service_admission::{ServiceState, SourceLimits, admits};
-use service_files::{DaemonFault, socket_fault};
+//! Which worker receives. One worker at a time does, while others are idle or handle what they have received. Before it lets the next one
+//! receive, it enters the datagram's group of calls, or hands the datagram over to the worker that is on that group; so what comes of one
+//! call is handled in the order in which it came. It lets the next one receive where one more datagram waits.
+use crate::idle::IdleWorkers;
+use call_affinity::{CallGroups, GroupClaim};
+use metrics::DatagramCounts;
+use service_admission::SourceLimits;
 use sip_uri::Hop;
 use sockets::Socket;
-use std::alloc::Global;
-use std::sync::Wait;
-use std::time::Clock;
+use std::alloc::{AllocError, Global};
+use std::sync::{Mutex, Wait};
 
-/// A datagram in a worker's buffer, whose group of calls the worker has entered.
-#[derive(Clone, Copy)]
-pub(crate) struct ClaimedDatagram {
-    /// How many bytes of the buffer it has.
-    pub(crate) count: usize,
-    pub(crate) source: Hop,
-    /// The number of its group; None where it has no Call-ID.
-    pub(crate) group: Option<u8>,
+/// Which worker receives, which are idle meanwhile, and which is on each group of calls.
+#[derive(Drop)]
+pub(crate) struct Receiving {
+    alloc: Global,
+    /// Who has this lock receives. Under it stands what sources have sent, if there is a limit.
+    pub(crate) limits: Mutex<Option<SourceLimits<Global>>>,
+    /// Workers that are idle while another one receives.
+    idle: IdleWorkers,
+    pub(crate) groups: CallGroups,
 }
 
-impl ServiceProxy {
-    /// Counts a datagram that came, and says whether its source may send it now.
-    fn admits<R: Clock>(
-        &self,
-        rt: &R,
-        limits: &mut Option<SourceLimits<Global>>,
-        watch: &mut ThreadClock,
-        source: Hop,
-    ) -> bool {
-        let now = match limits {
-            Some(_) => watch.micros(rt) / 1_000,
-            None => 0,
-        };
-        let counts = &self.service.counts().datagrams;
-        admits(counts, limits, source.addr, now)
+/// What sources may send, if there is a limit: nothing was sent yet.
+fn source_limits(alloc: Global, most: Option<u32>) -> Option<SourceLimits<Global>> {
+    Some(SourceLimits::new(alloc, most?))
+}
+
+impl Receiving {
+    /// No worker receives, and none is idle. A source may send so many datagrams in a second, if there is a limit.
+    ///
+    /// # Errors
+    ///
+    /// Only where the allocator refuses.
+    pub(crate) fn new(alloc: Global, most: Option<u32>) -> Result<Receiving, AllocError> {
+        let groups = CallGroups::new(alloc)?;
+        Ok(Receiving {
+            alloc,
+            limits: Mutex::new(source_limits(alloc, most)),
+            idle: IdleWorkers::new(),
+            groups,
+        })
     }
 
     /// Whether the group of this number is entered with a datagram; else it is another worker's, or is dropped and counted.
-    fn enters<R: Wait>(&self, rt: &R, number: Option<u8>, bytes: &[u8], source: Hop) -> bool {
-        let counts = &self.service.counts().datagrams;
+    pub(crate) fn enters<R: Wait>(
+        &self,
+        rt: &R,
+        counts: &DatagramCounts,
+        number: Option<u8>,
+        bytes: &[u8],
+        source: Hop,
+    ) -> bool {
         match self.groups.enter(rt, self.alloc, number, bytes, source) {
             GroupClaim::Entered => true,
             GroupClaim::HandedOver => false,
@@ -59,46 +65,26 @@ impl ServiceProxy {
         }
     }
 
-    /// The next datagram that this worker is to handle, while no other worker receives. None where none comes within a second, or it is
-    /// for another worker, or is dropped, or the proxy has ended.
-    ///
-    /// # Errors
-    ///
-    /// `Socket` where the receive failed.
-    #[tactic(auto, using(crate::proofs::Faults::socket_is_system))]
-    pub(crate) fn receive<R: Wait + Clock>(
-        &self,
-        rt: &R,
-        socket: &Socket,
-        limits: &mut Option<SourceLimits<Global>>,
-        watch: &mut ThreadClock,
-        buffer: &mut [u8],
-    ) -> Result<Option<ClaimedDatagram>, DaemonFault>
-        ensures fits { IfOk result (λ came. IfSome came (λ entered. entered.count ≤ length buffer.new)) }
-        ensures fault { IfErr result IsSystemFault }
-    {
-        let came = match socket.receive(buffer) {
-            Ok(came) => came,
-            Err(error) => return Err(socket_fault(error)),
-        };
-        if self.service.is_in(ServiceState::Ended) {
-            return Ok(None);
+    /// Is idle until a worker is woken, while another one receives.
+    pub(crate) fn wait_idle<R: Wait>(&self, rt: &R) {
+        let woken = self.idle.enter();
+        let is_free = self.limits.try_lock().is_some();
+        if !is_free {
+            self.idle.sleep(rt, woken);
         }
-        let Some((count, source)) = came else {
-            return Ok(None);
-        };
-        if !self.admits(rt, limits, watch, source) {
-            return Ok(None);
+        self.idle.leave();
+    }
+
+    /// Wakes an idle worker, as the one that asks is about to handle a datagram while nobody receives: where a datagram waits, and where no
+    /// other one watches.
+    pub(crate) fn hand_over(&self, socket: &Socket) {
+        if self.idle.has_any() && (!self.idle.is_watched() || socket.has_waiting()) {
+            self.idle.wake_one();
         }
-        let bytes = &buffer[..count];
-        let group = group_of(bytes);
-        if !self.enters(rt, group, bytes, source) {
-            return Ok(None);
-        }
-        Ok(Some(ClaimedDatagram {
-            count,
-            source,
-            group,
-        }))
+    }
+
+    /// Wakes all workers that are idle, at the end.
+    pub(crate) fn wake_all(&self) {
+        self.idle.wake_all();
     }
 }

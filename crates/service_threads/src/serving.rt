@@ -82,7 +82,7 @@ impl ServerThreads<Socket> for Server {
     }
 
     fn write<R: Wait + ProxyFiles + Clock>(&self, rt: &R) {
-        self.proxy.write_journal(rt);
+        self.proxy.journal.write(rt, &self.proxy.service);
     }
 
     fn end(&self) {
@@ -90,8 +90,9 @@ impl ServerThreads<Socket> for Server {
     }
 
     fn finish<R: Wait + Clock>(&self, rt: &R) {
-        self.proxy.service.write_down_left(rt);
-        self.proxy.end_journal();
+        let service = &self.proxy.service;
+        service.write_down_left(rt);
+        self.proxy.journal.end(service.journal());
         if let Some(listener) = &self.listeners.metrics {
             let _ = net::shutdown(listener.as_raw_fd(), net::SHUT_RDWR);
         }
@@ -99,9 +100,9 @@ impl ServerThreads<Socket> for Server {
 
     fn leave<R: Wait + ProxyFiles + Print>(&self, rt: &R) {
         rt.take_file_away(self.proxy.paths.control.as_str());
-        let service = &self.proxy.service;
-        let opened = service.opened(rt);
-        let left = service.held(rt);
+        let calls = self.proxy.service.calls();
+        let opened = calls.opened(rt);
+        let left = calls.held(rt);
         if can_print() {
             let _ = rt.println(format_args!("ended, {opened} calls, {left} left"));
         }

@@ -21,7 +21,10 @@ impl ServiceProxy {
             if service.is_in(ServiceState::Ended) {
                 return;
             }
-            service.schedule().sleep_until(rt, watch.micros(rt), until);
+            service
+                .calls()
+                .schedule()
+                .sleep_until(rt, watch.micros(rt), until);
         }
         unreachable!()
     }
@@ -31,6 +34,6 @@ impl ServiceProxy {
     pub(crate) fn keep_time<R: Wait + Clock>(&self, rt: &R, socket: &Socket) {
         self.keep_time_until_end(rt, socket);
         socket.wake(self.own);
-        self.idle.wake_all();
+        self.receiving.wake_all();
     }
 }

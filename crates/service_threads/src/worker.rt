@@ -4,14 +4,16 @@ ghost use Rattle.service_threads.specs.Faults.{IsSystemFault};
 
 use crate::port::{ServicePort, service_port};
 use crate::proxy::ServiceProxy;
-use crate::receiving::ClaimedDatagram;
+use crate::receiving::Receiving;
+use call_affinity::group_of;
 use call_table::ThreadClock;
-use fork_call::Port;
 use proxy_dispatch::{ReadyMemory, Received};
-use service_admission::ServiceState;
-use service_files::DaemonFault;
+use proxy_service::Service;
+use service_admission::{ServiceState, SourceLimits, admits};
+use service_files::{DaemonFault, socket_fault};
 use sip_uri::Hop;
 use sockets::Socket;
+use std::alloc::Global;
 use std::hint::spin_loop;
 use std::sync::Wait;
 use std::time::Clock;
@@ -27,43 +29,61 @@ fn pause() {
     }
 }
 
-/// What a worker keeps from one datagram to the next.
+/// A datagram in a worker's buffer, whose group of calls the worker has entered.
+#[derive(Clone, Copy)]
+struct ClaimedDatagram {
+    /// How many bytes of the buffer it has.
+    count: usize,
+    source: Hop,
+    /// The number of its group; None where it has no Call-ID.
+    group: Option<u8>,
+}
+
+/// A worker: what it works for, and what it keeps from one datagram to the next.
 #[derive(Drop)]
-struct WorkerState<'a> {
+struct DatagramWorker<'a> {
+    alloc: Global,
+    service: &'a Service,
+    receiving: &'a Receiving,
+    socket: &'a Socket,
     port: ServicePort<'a>,
     watch: ThreadClock,
     ready: ReadyMemory,
 }
 
-impl ServiceProxy {
+impl<'a> DatagramWorker<'a> {
+    /// One that has handled nothing yet.
+    fn new(proxy: &'a ServiceProxy, socket: &'a Socket) -> DatagramWorker<'a> {
+        let counts = &proxy.service.counts().datagrams;
+        DatagramWorker {
+            alloc: proxy.alloc,
+            service: &proxy.service,
+            receiving: &proxy.receiving,
+            socket,
+            port: service_port(socket, counts, &counts.sent),
+            watch: ThreadClock::new(proxy.epoch),
+            ready: ReadyMemory::new(),
+        }
+    }
+
     /// Handles a datagram, and notes how long that took. The moment is read as it begins.
-    pub(crate) fn handle_timed<R: Wait + Clock, P: Port>(
-        &self,
-        rt: &R,
-        port: &mut P,
-        watch: &mut ThreadClock,
-        bytes: &[u8],
-        source: Hop,
-    ) {
-        let began = watch.micros(rt);
+    fn handle_timed<R: Wait + Clock>(&mut self, rt: &R, bytes: &[u8], source: Hop) {
+        let began = self.watch.micros(rt);
         let received = Received {
             bytes,
             source,
             now: began / 1_000,
         };
-        self.service.take(rt, port, received);
-        let took = watch.micros(rt).saturating_sub(began);
+        self.service.take(rt, &mut self.port, received);
+        let took = self.watch.micros(rt).saturating_sub(began);
         self.service.counts().latencies.add(took);
     }
 
     /// Handles what was handed over meanwhile in a group that this worker is on, and leaves the group.
-    fn drain_group<R: Wait + Clock>(&self, rt: &R, state: &mut WorkerState<'_>, group: Option<u8>) {
+    fn drain_group<R: Wait + Clock>(&mut self, rt: &R, group: Option<u8>) {
         for _ in rt.forever() {
-            match self.groups.next(rt, group) {
-                Some(packet) => {
-                    let (port, watch) = (&mut state.port, &mut state.watch);
-                    self.handle_timed(rt, port, watch, packet.bytes.as_slice(), packet.source);
-                }
+            match self.receiving.groups.next(rt, group) {
+                Some(packet) => self.handle_timed(rt, packet.bytes.as_slice(), packet.source),
                 None => return,
             }
         }
@@ -71,30 +91,69 @@ impl ServiceProxy {
     }
 
     /// Handles a datagram whose group of calls this worker has entered, and those that are handed over to it meanwhile.
-    fn handle_claimed<R: Wait + Clock>(
-        &self,
-        rt: &R,
-        state: &mut WorkerState<'_>,
-        buffer: &[u8],
-        entered: ClaimedDatagram,
-    )
+    fn handle_claimed<R: Wait + Clock>(&mut self, rt: &R, buffer: &[u8], entered: ClaimedDatagram)
         requires { entered.count ≤ length buffer.now }
     {
-        state.ready.hold(&self.alloc);
-        let bytes = &buffer[..entered.count];
-        let (port, watch) = (&mut state.port, &mut state.watch);
-        self.handle_timed(rt, port, watch, bytes, entered.source);
-        self.drain_group(rt, state, entered.group);
+        self.ready.hold(&self.alloc);
+        self.handle_timed(rt, &buffer[..entered.count], entered.source);
+        self.drain_group(rt, entered.group);
     }
 
-    /// Is idle until a worker is woken, while another one receives.
-    fn wait_idle<R: Wait>(&self, rt: &R) {
-        let woken = self.idle.enter();
-        let is_free = self.receiving.try_lock().is_some();
-        if !is_free {
-            self.idle.sleep(rt, woken);
+    /// Counts a datagram that came, and says whether its source may send it now.
+    fn admits<R: Clock>(
+        &mut self,
+        rt: &R,
+        limits: &mut Option<SourceLimits<Global>>,
+        source: Hop,
+    ) -> bool {
+        let now = match limits {
+            Some(_) => self.watch.micros(rt) / 1_000,
+            None => 0,
+        };
+        let counts = &self.service.counts().datagrams;
+        admits(counts, limits, source.addr, now)
+    }
+
+    /// The next datagram that this worker is to handle, while no other worker receives. None where none comes within a second, or it is
+    /// for another worker, or is dropped, or the proxy has ended.
+    ///
+    /// # Errors
+    ///
+    /// `Socket` where the receive failed.
+    #[tactic(auto, using(crate::proofs::Faults::socket_is_system))]
+    fn receive<R: Wait + Clock>(
+        &mut self,
+        rt: &R,
+        limits: &mut Option<SourceLimits<Global>>,
+        buffer: &mut [u8],
+    ) -> Result<Option<ClaimedDatagram>, DaemonFault>
+        ensures fits { IfOk result (λ came. IfSome came (λ entered. entered.count ≤ length buffer.new)) }
+        ensures fault { IfErr result IsSystemFault }
+    {
+        let came = match self.socket.receive(buffer) {
+            Ok(came) => came,
+            Err(error) => return Err(socket_fault(error)),
+        };
+        if self.service.is_in(ServiceState::Ended) {
+            return Ok(None);
         }
-        self.idle.leave();
+        let Some((count, source)) = came else {
+            return Ok(None);
+        };
+        if !self.admits(rt, limits, source) {
+            return Ok(None);
+        }
+        let bytes = &buffer[..count];
+        let group = group_of(bytes);
+        let counts = &self.service.counts().datagrams;
+        if !self.receiving.enters(rt, counts, group, bytes, source) {
+            return Ok(None);
+        }
+        Ok(Some(ClaimedDatagram {
+            count,
+            source,
+            group,
+        }))
     }
 
     /// The next datagram that this worker is to handle; None where there is none, or where another worker received until this one was woken.
@@ -103,31 +162,22 @@ impl ServiceProxy {
     ///
     /// `Socket` where a receive failed.
     fn receive_or_wait<R: Wait + Clock>(
-        &self,
+        &mut self,
         rt: &R,
-        socket: &Socket,
-        watch: &mut ThreadClock,
         buffer: &mut [u8],
     ) -> Result<Option<ClaimedDatagram>, DaemonFault>
         ensures fits { IfOk result (λ came. IfSome came (λ entered. entered.count ≤ length buffer.new)) }
         ensures fault { IfErr result IsSystemFault }
     {
+        let receiving = self.receiving;
         for _ in 0..LOOKS {
-            if let Some(mut limits) = self.receiving.try_lock() {
-                return self.receive(rt, socket, &mut *limits, watch, buffer);
+            if let Some(mut limits) = receiving.limits.try_lock() {
+                return self.receive(rt, &mut *limits, buffer);
             }
             pause();
         }
-        self.wait_idle(rt);
+        receiving.wait_idle(rt);
         Ok(None)
-    }
-
-    /// Wakes an idle worker, as this one is about to handle a datagram while nobody receives: where a datagram waits, and where no other one
-    /// watches.
-    fn hand_receiving_over(&self, socket: &Socket) {
-        if self.idle.has_any() && (!self.idle.is_watched() || socket.has_waiting()) {
-            self.idle.wake_one();
-        }
     }
 
     /// Receives and handles datagrams until the end.
@@ -135,33 +185,28 @@ impl ServiceProxy {
     /// # Errors
     ///
     /// `Socket` where a receive failed.
-    fn work_until_end<'a, R: Wait + Clock>(
-        &'a self,
+    fn work_until_end<R: Wait + Clock>(
+        &mut self,
         rt: &R,
-        socket: &'a Socket,
         buffer: &mut [u8],
     ) -> Result<(), DaemonFault>
         ensures { IfErr result IsSystemFault }
     {
-        let counts = &self.service.counts().datagrams;
-        let mut state = WorkerState {
-            port: service_port(socket, counts, &counts.sent),
-            watch: ThreadClock::new(self.epoch),
-            ready: ReadyMemory::new(),
-        };
         for _ in rt.forever() {
             if self.service.is_in(ServiceState::Ended) {
                 return Ok(());
             }
-            let came = self.receive_or_wait(rt, socket, &mut state.watch, buffer)?;
+            let came = self.receive_or_wait(rt, buffer)?;
             if let Some(entered) = came {
-                self.hand_receiving_over(socket);
-                self.handle_claimed(rt, &mut state, buffer, entered);
+                self.receiving.hand_over(self.socket);
+                self.handle_claimed(rt, buffer, entered);
             }
         }
         unreachable!()
     }
+}
 
+impl ServiceProxy {
     /// Receives and handles datagrams until the end. Where a receive failed the proxy ends. Behind this worker the others leave.
     ///
     /// # Errors
@@ -175,11 +220,12 @@ impl ServiceProxy {
     ) -> Result<(), DaemonFault>
         ensures { IfErr result IsSystemFault }
     {
-        let ended = self.work_until_end(rt, socket, buffer);
+        let mut worker = DatagramWorker::new(self, socket);
+        let ended = worker.work_until_end(rt, buffer);
         if ended.is_err() {
             self.service.end();
         }
-        self.idle.wake_all();
+        self.receiving.wake_all();
         ended
     }
 }
