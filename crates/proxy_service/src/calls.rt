@@ -4,7 +4,6 @@ ghost use Rattle.std.specs.Bool.{OnFalse};
 ghost use Rattle.fork_model.specs.Log.{core_of};
 ghost use Rattle.fork_model.specs.Table.{is_finished};
 
-use crate::marks::Marks;
 use crate::notes::NoteTables;
 use crate::refusals::Refusals;
 use crate::walk::Walk;
@@ -35,8 +34,6 @@ pub struct ServiceCalls<A: Allocator + Copy = Global> {
     pub(crate) heap: Global,
     pub(crate) shelf: Shelf<Call<A>, A>,
     pub(crate) schedule: Schedule<A>,
-    /// The calls that were counted as finished.
-    pub(crate) finished: Marks,
     /// The calls that lack memory.
     pub(crate) refusals: Refusals,
     pub(crate) walk: Mutex<Walk>,
@@ -63,13 +60,11 @@ impl<A: Allocator + Copy> ServiceCalls<A> {
     pub(crate) fn new(alloc: A, heap: Global) -> Result<ServiceCalls<A>, AllocError> {
         let shelf = Shelf::new(alloc)?;
         let schedule = Schedule::new(alloc)?;
-        let finished = Marks::new(heap)?;
         Ok(ServiceCalls {
             alloc,
             heap,
             shelf,
             schedule,
-            finished,
             refusals: Refusals::new(heap)?,
             walk: Mutex::new(Walk::new()),
             notes: NoteTables::new(heap)?,

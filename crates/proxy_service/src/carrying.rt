@@ -1,8 +1,11 @@
 //! What is done with one call: it is carried, and forgotten once it is over.
-ghost use Rattle.std.specs.Prelude.{◌≡◌, ◌↔◌, ◌+◌, ◌-◌, ◌*◌, ◌/◌, ◌^◌, min, IsTrue};
+ghost use Rattle.std.specs.Prelude.{◌≡◌, ◌↔◌, IsTrue};
 ghost use Rattle.std.specs.Bool.{OnTrue};
 ghost use Rattle.call_model.specs.Due.{IsOver};
 ghost use Rattle.call_laws.specs.Quiet.{IsQuietWithoutOwed};
+ghost use Rattle.fork_model.specs.Log.{core_of};
+ghost use Rattle.fork_model.specs.Table.{is_finished};
+ghost use Rattle.proxy_service.specs.Waits.{look_at, step_from};
 
 use crate::answers::AnswerPort;
 use crate::calls::ServiceCalls;
@@ -25,9 +28,21 @@ const STEP: u64 = 20;
 
 /// The first step at this moment or behind it, in milliseconds.
 fn step_from(moment: u64) -> u64
-    ensures { result ≡ min ((moment + 19) / 20 * 20) (2 ^ 64 - 1) }
+    ensures { result ≡ step_from moment }
 {
     moment.div_ceil(STEP).saturating_mul(STEP)
+}
+
+/// The moment at which a call is looked at that is due later, in milliseconds. Those of which each branch has ended wait for their last
+/// timers, and perhaps for an ACK, of which nothing is awaited to the millisecond: many of them are looked at together.
+fn look_at<A: Allocator + Clone>(call: &Call<A>, due: u64) -> u64
+    ensures { result ≡ look_at (is_finished (core_of call.now.log).table.rows) due }
+{
+    if call.book().context().finished() {
+        step_from(due)
+    } else {
+        due
+    }
 }
 
 /// Seconds since 1970; 0 where the clock cannot be read.
@@ -55,29 +70,19 @@ impl<A: Allocator + Copy> ServiceCalls<A> {
     }
 
     /// Has a call that no other thread looks at meanwhile carried when it is due next, and not before.
-    fn schedule_next<R: Wait>(&self, rt: &R, number: u64, next: NextStep, visit: &Visit<'_>) {
+    fn schedule_next<R: Wait>(&self, rt: &R, call: &Call<A>, next: NextStep, visit: &Visit<'_>) {
         let due = match next {
-            NextStep::At(due) if due > visit.now => self.look_for(number, due),
+            NextStep::At(due) if due > visit.now => look_at(call, due),
             NextStep::At(due) => due,
             NextStep::Nothing | NextStep::Over(_) | NextStep::Refused => return,
         };
-        visit.note_missed(self.schedule.set(rt, number, due));
+        visit.note_missed(self.schedule.set(rt, call.number(), due));
     }
 
-    /// The moment at which a call is looked at that is due later, in milliseconds. Those of which each branch has ended wait for their last
-    /// timers, and perhaps for an ACK, of which nothing is awaited to the millisecond: many of them are looked at together.
-    fn look_for(&self, number: u64, due: u64) -> u64 {
-        if self.finished.has(number) {
-            step_from(due)
-        } else {
-            due
-        }
-    }
-
-    /// Counts a call as finished, once, where each of its branches has ended and it is not over. One that is over is counted as it is
-    /// forgotten, so that its mark is not set anew behind that.
-    fn count_finished(&self, call: &Call<A>, visit: &Visit<'_>) {
-        if call.book().context().finished() && self.finished.set(call.number()) {
+    /// Counts a call as finished, once, where each of its branches has ended. One that is over is counted as it is forgotten, unless it was
+    /// before.
+    fn count_finished<R: Wait>(&self, rt: &R, call: &Call<A>, visit: &Visit<'_>) {
+        if call.book().context().finished() && self.notes.finish(rt, call.number()) {
             visit.counts.finished.add(1);
         }
     }
@@ -93,7 +98,7 @@ impl<A: Allocator + Copy> ServiceCalls<A> {
         block: &mut Vec<u8, A>,
     ) {
         match next {
-            NextStep::At(_) | NextStep::Nothing => self.count_finished(call, visit),
+            NextStep::At(_) | NextStep::Nothing => self.count_finished(rt, call, visit),
             NextStep::Over(_) if visit.journal.is_some() => {
                 let _ = self.notes.append_block(rt, call, seconds(rt), block);
             }
@@ -138,7 +143,7 @@ impl<A: Allocator + Copy> ServiceCalls<A> {
         self.note_call(rt, call, visit, answers.cancels);
         let next = next_step(call, carried, now);
         self.note_step(rt, call, next, visit, block);
-        self.schedule_next(rt, call.number(), next, visit);
+        self.schedule_next(rt, call, next, visit);
         next
     }
 
@@ -155,8 +160,8 @@ impl<A: Allocator + Copy> ServiceCalls<A> {
         match self.shelf.remove_if(rt, number, may_be_forgotten) {
             Removal::Removed => {
                 visit.admission.quota.forget(rt);
-                self.notes.forget(rt, number);
-                visit.count_forgotten(self.finished.clear(number), failure);
+                let was_finished = self.notes.forget(rt, number);
+                visit.count_forgotten(was_finished, failure);
                 if let Some(journal) = visit.journal {
                     write_down(rt, journal, visit.counts, block);
                 }

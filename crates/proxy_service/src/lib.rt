@@ -14,7 +14,6 @@ mod calls;
 mod carrying;
 mod journal;
 mod leaving;
-mod marks;
 mod notes;
 mod refusals;
 mod service;
@@ -30,6 +29,5 @@ mod walk;
 
 pub use calls::ServiceCalls;
 pub use journal::append_block;
-pub use marks::Marks;
 pub use service::Service;
 pub use terms::RunSettings;

@@ -1,4 +1,5 @@
-//! What is noted of the calls that are kept: when each was opened, and, where there is a journal, what its targets did.
+//! What is noted of the calls that are kept: when each was opened, whether it was counted as finished, and, where there is a journal, what its
+//! targets did.
 ghost use Rattle.std.specs.Prelude.{◌≡◌, ◌++◌, OnErr, OnOk};
 ghost use Rattle.std.specs.List.{filter_map};
 ghost use Rattle.std.specs.Option.{option_to_list};
@@ -12,6 +13,7 @@ use fork_call::Call;
 use fork_context::State;
 use std::alloc::{AllocError, Allocator, Global};
 use std::collections::BTreeMap;
+use std::mem;
 use std::sync::{Mutex, Wait};
 
 /// In how many tables the calls are noted, each behind a lock of its own, so that threads seldom wait for one another.
@@ -22,6 +24,8 @@ const TABLES: u64 = 64;
 struct CallNotes {
     /// When it was opened, in milliseconds.
     opened: u64,
+    /// Whether it was counted as finished.
+    is_finished: bool,
     /// How many events of its book were looked at.
     seen: usize,
     /// To which of its targets a CANCEL went.
@@ -66,6 +70,7 @@ impl CallNotes {
     fn new(alloc: Global, opened: u64) -> CallNotes {
         CallNotes {
             opened,
+            is_finished: false,
             seen: 0,
             cancelled: TargetSet::none(),
             notes: Vec::new(alloc),
@@ -215,10 +220,28 @@ impl NoteTables {
         since(table.get(&number)?.notes.as_slice(), target, state)
     }
 
-    /// Forgets what is noted of a call that is no more kept.
-    pub(crate) fn forget<R: Wait>(&self, rt: &R, number: u64) {
-        if let Some(table) = self.table(number) {
-            let _ = table.lock(rt).remove(&number);
+    /// Notes that a call is counted as finished, and says whether it was not before. Where nothing is noted of the call, for want of memory,
+    /// it is not counted yet.
+    pub(crate) fn finish<R: Wait>(&self, rt: &R, number: u64) -> bool {
+        let Some(table) = self.table(number) else {
+            return false;
+        };
+        let mut table = table.lock(rt);
+        match table.get_mut(&number) {
+            Some(notes) => !mem::replace(&mut notes.is_finished, true),
+            None => false,
+        }
+    }
+
+    /// Forgets what is noted of a call that is no more kept, and says whether the call was counted as finished.
+    pub(crate) fn forget<R: Wait>(&self, rt: &R, number: u64) -> bool {
+        let Some(table) = self.table(number) else {
+            return false;
+        };
+        let forgotten = table.lock(rt).remove(&number);
+        match forgotten {
+            Some(notes) => notes.is_finished,
+            None => false,
         }
     }
 }

@@ -1,7 +1,6 @@
 //! What a service is made of below its threads.
 use crate::holds::holds;
 use metrics::{Counts, Gauges};
-use proxy_service::Marks;
 use service_admission::{CallQuota, is_keep_alive};
 use service_files::{
     DaemonFault, Identity, ProxyFiles, UnobeyedLine, calls_within, configuration_fault,
@@ -255,24 +254,6 @@ fn line_ends_alone_keep_a_path_open(rt: HostRuntime) {
     for text in ["\0\0\0", "\0\0\0\0\0", "\r\n\r\nACK", " "] {
         holds(&rt, !is_keep_alive(text.as_bytes()), "it is none");
     }
-}
-
-/// Whether marks are set once, and cleared once.
-fn are_marked(alloc: Global) -> bool {
-    let Ok(marks) = Marks::new(alloc) else {
-        return false;
-    };
-    for number in [0, 63, 64, 4_194_303, 4_194_304 + 1] {
-        if !marks.set(number) || marks.set(number) {
-            return false;
-        }
-    }
-    marks.clear(63) && !marks.clear(63) && !marks.clear(62) && !marks.set(64)
-}
-
-#[test]
-fn a_call_is_marked_once(rt: HostRuntime) {
-    holds(&rt, are_marked(rt.alloc()), "the marks");
 }
 
 /// Whether two places are kept, a third for a request within a dialog alone, and one more only once two are given back.

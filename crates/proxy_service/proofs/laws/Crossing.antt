@@ -14,7 +14,6 @@ use Rattle.fork_call.specs.contracts.call.Call.{the_row as call_row}
 use Rattle.metrics.proofs.laws.Crossing.{counts_sync}
 use Rattle.proxy_config.proofs.laws.Crossing as setup
 use Rattle.proxy_config.specs.contracts.setup.Setup.{the_row as setup_row}
-use Rattle.proxy_service.proofs.marks.Marks.TheSendSync as marks
 use Rattle.proxy_service.proofs.notes.NoteTables.TheSendSync as notes
 use Rattle.proxy_service.proofs.refusals.Refusals.TheSendSync as refusals
 use Rattle.proxy_service.proofs.terms.RunSettings.TheSendSync as terms
@@ -51,10 +50,7 @@ calls_sync h = struct_sync (shape (calls.the_type heap_row ghosts h)) (
       shelf_shared h,
       (
         schedule_sync heap_row ghosts send frees,
-        (
-          marks.the_field_sync,
-          (refusals.the_field_sync, (search (crosses, walk.the_send), (notes.the_field_sync, (search (crosses, sendable), tt)))),
-        ),
+        (refusals.the_field_sync, (search (crosses, walk.the_send), (notes.the_field_sync, (search (crosses, sendable), tt)))),
       ),
     ),
   ),
