@@ -3,10 +3,10 @@ ghost use Rattle.std.specs.Prelude.{◌≡◌, IfOk};
 ghost use Rattle.std.specs.Option.{option_copied};
 ghost use Rattle.bindings.specs.Bindings.{binding_of, ends_first, is_by, is_there, names};
 ghost use Rattle.bindings.specs.Registering.{has_made, is_as_new};
-ghost use Rattle.bindings.specs.Seen.{asked_of, contact_of, id_of, register_of};
+ghost use Rattle.bindings.specs.Seen.{asked_of, contact_of, id_of, made_by_of, register_of};
 
 use crate::contact::ContactParts;
-use crate::request::{RegisterContact, RegisterRequest};
+use crate::request::{MadeBy, RegisterContact, RegisterRequest};
 use sip_uri::Hop;
 use std::alloc::{AllocError, Allocator, Global};
 use std::marker::Model;
@@ -154,6 +154,18 @@ impl<A: Allocator + Clone> OwnedId<A> {
 }
 
 impl<A: Allocator + Clone> OwnedId<A> {
+    fn made_by(alloc: A, by: &MadeBy<'_>) -> Result<OwnedId<A>, AllocError>
+        ensures { IfOk result (λ i. i ≡ made_by_of by.now) }
+    {
+        let call_id = Vec::from_slice(alloc.clone()?, by.call_id)?;
+        let key = Vec::from_slice(alloc, by.key)?;
+        Ok(OwnedId {
+            call_id,
+            cseq: by.cseq,
+            key,
+        })
+    }
+
     /// The same, with texts of its own.
     fn copied(&self, alloc: A) -> Result<OwnedId<A>, AllocError>
         ensures { IfOk result (λ i. i ≡ self.now) }
@@ -180,6 +192,24 @@ impl<A: Allocator + Clone> Binding<A> {
             ends: self.ends,
             by,
         })
+    }
+
+    /// A binding of which all is given: for a caller who reads back what was kept of it.
+    ///
+    /// # Errors
+    ///
+    /// Only where the allocator refuses.
+    pub fn kept(
+        alloc: A,
+        contact: &ContactParts<'_>,
+        ends: u64,
+        by: &MadeBy<'_>,
+    ) -> Result<Binding<A>, AllocError>
+        ensures { IfOk result (λ b. b ≡ record { contact = contact_of contact.now; ends = ends; by = made_by_of by.now }) }
+    {
+        let contact = OwnedContact::of(alloc.clone()?, contact)?;
+        let by = OwnedId::made_by(alloc, by)?;
+        Ok(Binding { contact, ends, by })
     }
 
     /// The binding that a contact of a request asks for.
@@ -219,6 +249,17 @@ impl<A: Allocator> Binding<A> {
         ensures { result ≡ self.now.ends }
     {
         self.ends
+    }
+
+    /// The request that made it.
+    pub fn made_by(&self) -> MadeBy<'_>
+        ensures { made_by_of result ≡ self.now.by }
+    {
+        MadeBy {
+            call_id: &self.by.call_id,
+            cseq: self.by.cseq,
+            key: &self.by.key,
+        }
     }
 
     /// Whether it is there at a moment: before its end.

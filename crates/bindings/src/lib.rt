@@ -21,6 +21,6 @@ pub use law::{
     what_is_kept_is_the_fold,
 };
 pub use refusal::RegisterRefusal;
-pub use request::{RegisterContact, RegisterRequest};
+pub use request::{MadeBy, RegisterContact, RegisterRequest};
 pub use there::BindingsAt;
 pub use user_bindings::UserBindings;

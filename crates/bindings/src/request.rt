@@ -28,6 +28,16 @@ impl RegisterContact<'_> {
     }
 }
 
+/// What tells a REGISTER request from all others: a binding keeps it of the one that made it.
+#[derive(Clone, Copy)]
+pub struct MadeBy<'a> {
+    pub call_id: &'a [u8],
+    /// The number of its CSeq.
+    pub cseq: u32,
+    /// The key of its transaction, from its top Via value (RFC 3261 section 17.2.3).
+    pub key: &'a [u8],
+}
+
 /// A REGISTER request of a user who may make it, as far as his bindings are concerned.
 #[derive(Clone, Copy)]
 pub struct RegisterRequest<'a> {

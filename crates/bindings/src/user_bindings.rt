@@ -1,5 +1,5 @@
 //! The bindings of one user.
-ghost use Rattle.std.specs.Prelude.{◌≡◌, ◌↔◌, [], IfOk, IsTrue, OnErr, OnOk, length};
+ghost use Rattle.std.specs.Prelude.{◌≡◌, ◌↔◌, ◌∷◌, ◌++◌, [], IfOk, IsTrue, OnErr, OnOk, length};
 ghost use Rattle.bindings.specs.Bindings.{changed, first_end, is_there, there};
 ghost use Rattle.bindings.specs.Registering.{Prepares, Registers, is_repeat};
 ghost use Rattle.bindings.specs.Seen.{register_of};
@@ -86,6 +86,33 @@ impl<A: Allocator> UserBindings<A> {
         }
         self.change(alloc, request)?;
         Ok(())
+    }
+
+    /// Puts a binding behind all others, whatever it is: for a caller who reads back what was kept of them.
+    ///
+    /// # Errors
+    ///
+    /// Only where the allocator refuses; all is as it was then.
+    pub fn push(&mut self, binding: Binding<A>) -> Result<(), AllocError>
+        ensures ok { OnOk result (self.new ≡ self.old ++ binding ∷ []) }
+        ensures err { OnErr result (self.new ≡ self.old) }
+    {
+        self.bindings.push(binding)?;
+        Ok(())
+    }
+
+    /// Copies of those that are there at a moment, in their order.
+    ///
+    /// # Errors
+    ///
+    /// Only where the allocator refuses.
+    pub fn copied(&self, alloc: A, moment: u64) -> Result<UserBindings<A>, AllocError>
+    where
+        A: Clone,
+        ensures { IfOk result (λ copies. copies ≡ there moment self.now) }
+    {
+        let bindings = copied_there(alloc, moment, &self.bindings, 0)?;
+        Ok(UserBindings { bindings })
     }
 
     /// How many are kept, those among them that have ended.
