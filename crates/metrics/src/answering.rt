@@ -1,6 +1,6 @@
 //! Answering scrapers, many at a time.
+use crate::page_sockets::PageSockets;
 use crate::scraper::Scraper;
-use crate::sockets::PageSockets;
 use sockets::{MOST_CLIENTS, PolledEvents, is_gone, place_of_first, wait_for};
 use std::alloc::Global;
 use std::net::TcpListener;

@@ -12,8 +12,8 @@ mod histogram;
 mod latencies;
 mod metric;
 mod page;
+mod page_sockets;
 mod scraper;
-mod sockets;
 
 pub use answering::{MetricsSource, answer_scrapers};
 pub use call_counts::{CallCounts, FailedCounts};
@@ -25,4 +25,4 @@ pub use histogram::{Histogram, HistogramClass, append_histogram, class_of};
 pub use latencies::HandlingTimes;
 pub use metric::{Metric, MetricKind, append_metrics};
 pub use page::{Page, PageKind, page_kind};
-pub use sockets::PageSockets;
+pub use page_sockets::PageSockets;

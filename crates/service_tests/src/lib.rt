@@ -33,8 +33,8 @@ mod limits;
 #[cfg(test)]
 mod parts;
 #[cfg(test)]
+mod receiving;
+#[cfg(test)]
 mod schedule;
 #[cfg(test)]
 mod scrapers;
-#[cfg(test)]
-mod sockets;
