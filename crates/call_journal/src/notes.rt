@@ -55,7 +55,7 @@ impl Note {
 
 /// Appends what stands before the status of a final response.
 fn append_answered<A: Allocator>(out: &mut Vec<u8, A>, status: u16) -> Result<(), AllocError>
-    ensures { OnOk result (out.new.items ≡ out.old.items ++ words (Happening.Answered status)) }
+    ensures { OnOk result (out.new.items ≡ out.old.items ++ words (NotedEvent.Answered status)) }
 {
     if status < 300 {
         append(out, b"answered ")?;
