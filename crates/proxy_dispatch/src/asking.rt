@@ -32,7 +32,6 @@ fn is_proxy<A: Allocator + Clone>(setup: &Setup<A>, uri: &SipUri<A>) -> bool
 }
 
 /// Whether a text names a user where it spells a URI: an `@` stands behind its scheme. It takes no memory.
-#[tactic(auto, using(crate::proofs::Users::with_a_user))]
 fn names_user(text: &[u8]) -> bool
     ensures { OnTrue result ((setup : spec.Setup) → is_proxy_if_read setup (read_uri text.now) ≡ false) }
 {
