@@ -254,7 +254,7 @@ fn an_extension_is_named(rt: HostRuntime) {
 }
 
 /// Whether a response of that status to the request has a tag added.
-fn has_tag_added(alloc: Global, status: OwnStatus) -> Option<bool> {
+fn tag_added(alloc: Global, status: OwnStatus) -> Option<bool> {
     match message_of(alloc, &REQUEST) {
         Some(request) => Some(has_tag_added(status, &request)),
         None => None,
@@ -266,12 +266,12 @@ fn responses_but_a_100_get_a_tag(rt: HostRuntime) {
     let alloc = rt.alloc();
     holds(
         &rt,
-        has_tag_added(alloc, OwnStatus::Okay) == Some(true),
+        tag_added(alloc, OwnStatus::Okay) == Some(true),
         "a 200 gets a tag",
     );
     holds(
         &rt,
-        has_tag_added(alloc, OwnStatus::Trying) == Some(false),
+        tag_added(alloc, OwnStatus::Trying) == Some(false),
         "a 100 gets none",
     );
 }
