@@ -67,6 +67,15 @@ fn are_challenges(
     Ok(are_lines(lines, &[(name, &first), (name, &second)]))
 }
 
+/// Whether it is noted of this user, or of none, that wrong credentials came.
+pub fn is_name(noted: &Option<Vec<u8>>, wanted: Option<&[u8]>) -> bool {
+    match (noted, wanted) {
+        (None, None) => true,
+        (Some(name), Some(wanted)) => name.as_slice() == wanted,
+        _ => false,
+    }
+}
+
 /// Whether the answer has this status and these further lines.
 pub fn is_answer(
     alloc: Global,

@@ -5,3 +5,8 @@ use std::process::Abort;
 pub fn holds(rt: &impl Abort, well: bool, what: &str) {
     assert!(rt; well, "{what}");
 }
+
+/// Ends the test where this does not hold of this text. `what` says which check it is.
+pub fn holds_of(rt: &impl Abort, well: bool, what: &str, text: &[u8]) {
+    assert!(rt; well, "{what}: {text:?}");
+}

@@ -1,12 +1,19 @@
-//! Tests of what a registrar does with telephones that register: `registrar`, by tables of REGISTER requests.
+//! Tests of who may open a call, and of what a registrar does with telephones that register: `authentication` and `registrar`, by tables
+//! of requests.
 #![tactic(auto)]
 
 #[cfg(test)]
 mod answers;
 #[cfg(test)]
+mod calling;
+#[cfg(test)]
+mod calls;
+#[cfg(test)]
 mod growths;
 #[cfg(test)]
 mod holds;
+#[cfg(test)]
+mod notes;
 #[cfg(test)]
 mod passwords;
 #[cfg(test)]
@@ -15,5 +22,7 @@ mod registering;
 mod registers;
 #[cfg(test)]
 mod requests;
+#[cfg(test)]
+mod taken_off;
 #[cfg(test)]
 mod world;

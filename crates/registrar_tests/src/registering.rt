@@ -1,5 +1,5 @@
 //! Histories of REGISTER requests of bob as tables, and what plays them.
-use crate::answers::{Wanted, is_answer};
+use crate::answers::{Wanted, is_answer, is_name};
 use crate::passwords::{Password, line_if_any};
 use crate::requests::request;
 use crate::world::{EXPIRATIONS, SECOND, domain, realm, users};
@@ -54,14 +54,6 @@ fn message_of(alloc: Global, row: &Row) -> Option<Message<Global>> {
         row.lines,
         &further,
     )
-}
-
-fn is_name(noted: &Option<Vec<u8>>, wanted: Option<&[u8]>) -> bool {
-    match (noted, wanted) {
-        (None, None) => true,
-        (Some(name), Some(wanted)) => name.as_slice() == wanted,
-        _ => false,
-    }
 }
 
 fn is_wanted(alloc: Global, answer: &OwnAnswer, row: &Row) -> bool {

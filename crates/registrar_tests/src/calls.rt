@@ -1,6 +1,6 @@
 //! Who may open a call, row by row.
 use crate::answers::Wanted;
-use crate::calling::{Decided, Row, Token, decides};
+use crate::calling::{CallRow, Decided, Token, decides};
 use crate::holds::holds;
 use crate::passwords::{BOBS, Password};
 use authentication::{Rule, requests_are_decided_in_one_way, strangers_open_nothing_else};
@@ -44,7 +44,7 @@ const ALICES: Password = Password {
 };
 
 /// An INVITE from bob to elsewhere.
-const CALL: Row = Row {
+const CALL: CallRow = CallRow {
     method: b"INVITE",
     uri: b"sip:x@203.0.113.1",
     lines: FROM_BOB,
@@ -58,7 +58,7 @@ const CALL: Row = Row {
 };
 
 /// The end of a dialog, from elsewhere.
-const END: Row = Row {
+const END: CallRow = CallRow {
     method: b"BYE",
     lines: BYE,
     decided: FORBIDDEN,
@@ -66,7 +66,7 @@ const END: Row = Row {
 };
 
 /// A call from elsewhere to bob.
-const TO_BOB: Row = Row {
+const TO_BOB: CallRow = CallRow {
     uri: b"sip:bob@example.com",
     lines: FROM_EVE,
     decided: FORBIDDEN,
@@ -74,10 +74,10 @@ const TO_BOB: Row = Row {
 };
 
 /// Requests, and what each shows.
-const ROWS: &[(Row, &str)] = &[
+const ROWS: &[(CallRow, &str)] = &[
     (CALL, "a call without credentials is challenged"),
     (
-        Row {
+        CallRow {
             password: Some(PASSWORD),
             decided: Decided::Opens(Rule::Password),
             ..CALL
@@ -85,7 +85,7 @@ const ROWS: &[(Row, &str)] = &[
         "a call with the password is opened",
     ),
     (
-        Row {
+        CallRow {
             password: Some(ALICES),
             decided: Decided::Turned(403, NOTHING, Some(b"alice")),
             ..CALL
@@ -93,7 +93,7 @@ const ROWS: &[(Row, &str)] = &[
         "the password of another user",
     ),
     (
-        Row {
+        CallRow {
             password: Some(Password {
                 uri: b"sip:y@203.0.113.1",
                 ..BOBS
@@ -104,7 +104,7 @@ const ROWS: &[(Row, &str)] = &[
         "credentials for another URI",
     ),
     (
-        Row {
+        CallRow {
             password: Some(Password {
                 password: b"wrong",
                 ..PASSWORD
@@ -119,7 +119,7 @@ const ROWS: &[(Row, &str)] = &[
         "a wrong password is noted",
     ),
     (
-        Row {
+        CallRow {
             password: Some(Password {
                 age: 300,
                 ..PASSWORD
@@ -130,14 +130,14 @@ const ROWS: &[(Row, &str)] = &[
         "an old nonce",
     ),
     (
-        Row {
+        CallRow {
             lines: FROM_NOBODY,
             ..CALL
         },
         "one who does not say who he is",
     ),
     (
-        Row {
+        CallRow {
             lines: FROM_NOBODY,
             password: Some(PASSWORD),
             decided: Decided::Opens(Rule::Password),
@@ -146,7 +146,7 @@ const ROWS: &[(Row, &str)] = &[
         "the same with a password",
     ),
     (
-        Row {
+        CallRow {
             lines: FROM_EVE,
             decided: FORBIDDEN,
             ..CALL
@@ -154,7 +154,7 @@ const ROWS: &[(Row, &str)] = &[
         "a stranger to elsewhere",
     ),
     (
-        Row {
+        CallRow {
             lines: FROM_EVE,
             strangers: true,
             has_place: true,
@@ -165,21 +165,21 @@ const ROWS: &[(Row, &str)] = &[
     ),
     (TO_BOB, "a stranger to bob"),
     (
-        Row {
+        CallRow {
             has_place: true,
             ..TO_BOB
         },
         "a stranger to bob, where strangers are not served",
     ),
     (
-        Row {
+        CallRow {
             strangers: true,
             ..TO_BOB
         },
         "a stranger to bob, who has no place",
     ),
     (
-        Row {
+        CallRow {
             strangers: true,
             has_place: true,
             decided: Decided::Opens(Rule::Stranger),
@@ -189,7 +189,7 @@ const ROWS: &[(Row, &str)] = &[
     ),
     (END, "the end of a dialog without a token"),
     (
-        Row {
+        CallRow {
             token: Some(Token(b"c4", 86_399)),
             decided: Decided::Opens(Rule::InDialog),
             ..END
@@ -197,28 +197,28 @@ const ROWS: &[(Row, &str)] = &[
         "the end of a dialog with its token",
     ),
     (
-        Row {
+        CallRow {
             token: Some(Token(b"c4", 86_400)),
             ..END
         },
         "a token that is a day old",
     ),
     (
-        Row {
+        CallRow {
             token: Some(Token(b"c3", 10)),
             ..END
         },
         "the token of another dialog",
     ),
     (
-        Row {
+        CallRow {
             token: Some(Token(b"c3", 10)),
             ..TO_BOB
         },
         "a token outside of a dialog",
     ),
     (
-        Row {
+        CallRow {
             trusted: true,
             decided: Decided::Opens(Rule::Trusted),
             ..CALL
@@ -226,7 +226,7 @@ const ROWS: &[(Row, &str)] = &[
         "a trusted source",
     ),
     (
-        Row {
+        CallRow {
             trusted: true,
             refusal: Some(OwnStatus::TooManyHops),
             decided: Decided::Turned(483, NOTHING, None),
@@ -235,7 +235,7 @@ const ROWS: &[(Row, &str)] = &[
         "the checks come first",
     ),
     (
-        Row {
+        CallRow {
             method: b"REGISTER",
             uri: b"sip:EXAMPLE.com",
             lines: REGISTER,
@@ -247,7 +247,7 @@ const ROWS: &[(Row, &str)] = &[
         "a REGISTER for the domain, from a trusted source",
     ),
     (
-        Row {
+        CallRow {
             method: b"REGISTER",
             lines: REGISTER,
             ..CALL
@@ -268,11 +268,11 @@ fn each_row_is_decided(rt: HostRuntime) {
 /// Whether a call of bob's is refused where nobody has a password, also with credentials.
 #[test]
 fn nobody_has_a_password_without_a_realm(rt: HostRuntime) {
-    let plain = Row {
+    let plain = CallRow {
         decided: FORBIDDEN,
         ..CALL
     };
-    let given = Row {
+    let given = CallRow {
         password: Some(PASSWORD),
         ..plain
     };

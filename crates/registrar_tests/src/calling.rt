@@ -1,5 +1,5 @@
 //! Requests that would open a call as rows of a table, and what is decided of each.
-use crate::answers::{Wanted, is_answer};
+use crate::answers::{Wanted, is_answer, is_name};
 use crate::passwords::{Password, line_if_any};
 use crate::requests::{joined, request};
 use crate::world::{SECOND, SECRET, domain, realm, users};
@@ -28,7 +28,7 @@ pub struct Token(pub &'static [u8], pub u32);
 
 /// A request that would open a call, and what is decided of it.
 #[derive(Clone, Copy)]
-pub struct Row {
+pub struct CallRow {
     pub method: &'static [u8],
     pub uri: &'static [u8],
     /// Its lines but those below, each with its end.
@@ -60,7 +60,7 @@ fn route_if_any(alloc: Global, token: Option<Token>) -> Option<Vec<u8, Global>> 
     }
 }
 
-fn message_of(alloc: Global, row: &Row) -> Option<Message<Global>> {
+fn opening_message(alloc: Global, row: &CallRow) -> Option<Message<Global>> {
     let route = route_if_any(alloc, row.token)?;
     let password = line_if_any(alloc, b"Proxy-Authorization", row.password, row.method)?;
     let Ok(start) = joined(alloc, &[row.method, b" ", row.uri, b" SIP/2.0\r\n"]) else {
@@ -70,14 +70,6 @@ fn message_of(alloc: Global, row: &Row) -> Option<Message<Global>> {
         return None;
     };
     request(alloc, &start, row.lines, &further)
-}
-
-fn is_name(noted: &Option<Vec<u8>>, wanted: Option<&[u8]>) -> bool {
-    match (noted, wanted) {
-        (None, None) => true,
-        (Some(name), Some(wanted)) => name.as_slice() == wanted,
-        _ => false,
-    }
 }
 
 fn is_decided(alloc: Global, decision: &Decision, wanted: Decided) -> bool {
@@ -91,7 +83,7 @@ fn is_decided(alloc: Global, decision: &Decision, wanted: Decided) -> bool {
     }
 }
 
-fn arrival_of(row: &Row) -> Arrival {
+fn arrival_of(row: &CallRow) -> Arrival {
     Arrival {
         source: Hop::over_udp(SOURCE, 5060),
         second: SECOND,
@@ -116,7 +108,7 @@ fn is_in_dialog(decided: Decided) -> bool {
 }
 
 /// Whether a request is one for the registrar, and one of a dialog, where the decision has it so.
-fn is_of_its_kind(alloc: Global, row: &Row, message: &Message<Global>) -> bool {
+fn is_of_its_kind(alloc: Global, row: &CallRow, message: &Message<Global>) -> bool {
     let domain = domain();
     let Ok(registers) = is_for_registrar(alloc, &domain, message) else {
         return false;
@@ -129,7 +121,7 @@ fn is_of_its_kind(alloc: Global, row: &Row, message: &Message<Global>) -> bool {
 fn decides_in(
     alloc: Global,
     realm: Option<&RealmSecrets<'_>>,
-    row: &Row,
+    row: &CallRow,
     message: &Message<Global>,
 ) -> bool {
     let admission = CallAdmission {
@@ -147,14 +139,14 @@ fn decides_in(
 }
 
 /// Whether it is decided of a request what has to be.
-pub fn decides(alloc: Global, has_realm: bool, row: &Row) -> bool {
+pub fn decides(alloc: Global, has_realm: bool, row: &CallRow) -> bool {
     let Some(users) = users(alloc) else {
         return false;
     };
     let Some(realm) = realm(&users) else {
         return false;
     };
-    let Some(message) = message_of(alloc, row) else {
+    let Some(message) = opening_message(alloc, row) else {
         return false;
     };
     if has_realm {
