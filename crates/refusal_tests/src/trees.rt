@@ -1,14 +1,11 @@
 //! Groups of targets, and trees of rows, while memory is refused.
-ghost use Rattle.std.specs.Prelude.{◌≡◌, IfOk};
-ghost use Rattle.fork_tree.specs.declared.row.State.TheVariants.{Ended};
-ghost use Rattle.fork_tree.specs.Given.{AreRows};
-
 use crate::answers::{Judge, judged};
 use crate::plays::calls;
 use crate::sources::Alloc;
 use failing_allocator::{Attempt, Heap, Stateless};
-use fork_rank::{Rules, Status, groups};
-use fork_tree::{End, ForkTree, NewRows, RowRef, State};
+use fork_rank::{Rules, groups};
+use fork_tests::rows::ended_rows;
+use fork_tree::{ForkTree, NewRows};
 use std::alloc::AllocError;
 
 /// What is made.
@@ -61,48 +58,8 @@ impl<'a> Judge<'a, ForkTree<Alloc<'a>>> for Making {
     }
 }
 
-fn row(no: u16, parent: Option<u16>, group: u16, q: u16, end: End) -> RowRef
-    ensures { result ≡ record { no = no; parent = parent; group = group; q = q; state = Ended end } }
-{
-    RowRef {
-        no,
-        parent,
-        group,
-        q,
-        state: State::Ended(end),
-    }
-}
-
-fn stored(code: u16, arrival: u32) -> Result<End, ()> {
-    match Status::of(code) {
-        Some(status) => Ok(End::Stored {
-            status,
-            arrival,
-            received: true,
-        }),
-        None => Err(()),
-    }
-}
-
-/// Two targets, the second of which was redirected first.
-fn ended_rows() -> Result<[RowRef; 6], ()>
-    ensures { IfOk result (λ rows. AreRows rows) }
-{
-    let redirection = stored(302, 1)?;
-    let missing = stored(404, 2)?;
-    let busy = stored(486, 5)?;
-    Ok([
-        row(0, None, 0, 1000, End::Taken { arrival: 4 }),
-        row(1, None, 0, 1000, redirection),
-        row(2, Some(1), 0, 700, missing),
-        row(3, Some(1), 1, 300, End::Silent { arrival: 3 }),
-        row(4, Some(0), 0, 500, busy),
-        row(5, Some(0), 0, 500, End::Never),
-    ])
-}
-
 fn ended_made(heap: Heap<'_>) -> Attempt {
-    let Ok(rows) = ended_rows() else {
+    let Some(rows) = ended_rows() else {
         return Attempt::Wrong;
     };
     let made = ForkTree::build(heap.scarce, Rules::usual(), &rows);

@@ -1,54 +1,11 @@
 //! A tree from its rows.
-ghost use Rattle.std.specs.Prelude.{◌≡◌, IfSome};
-ghost use Rattle.fork_tree.specs.declared.row.State.TheVariants.{Ended};
-ghost use Rattle.fork_tree.specs.Given.{AreRows};
-
 use crate::holds::{holds, holds_at};
+use crate::rows::ended_rows;
 use crate::tree::play::node_has_best;
-use fork_rank::{Rules, Status};
-use fork_tree::{End, ForkTree, RowRef, State};
+use fork_rank::Rules;
+use fork_tree::{ForkTree, RowRef};
 use std::alloc::Global;
 use std::process::Abort;
-
-fn row(no: u16, parent: Option<u16>, group: u16, q: u16, end: End) -> RowRef
-    ensures { result ≡ record { no = no; parent = parent; group = group; q = q; state = Ended end } }
-{
-    RowRef {
-        no,
-        parent,
-        group,
-        q,
-        state: State::Ended(end),
-    }
-}
-
-fn stored(code: u16, arrival: u32) -> Option<End> {
-    match Status::of(code) {
-        Some(status) => Some(End::Stored {
-            status,
-            arrival,
-            received: true,
-        }),
-        None => None,
-    }
-}
-
-/// Two targets, the second of which was redirected first.
-fn ended_rows() -> Option<[RowRef; 6]>
-    ensures { IfSome result (λ rows. AreRows rows) }
-{
-    let redirection = stored(302, 1)?;
-    let missing = stored(404, 2)?;
-    let busy = stored(486, 5)?;
-    Some([
-        row(0, None, 0, 1000, End::Taken { arrival: 4 }),
-        row(1, None, 0, 1000, redirection),
-        row(2, Some(1), 0, 700, missing),
-        row(3, Some(1), 1, 300, End::Silent { arrival: 3 }),
-        row(4, Some(0), 0, 500, busy),
-        row(5, Some(0), 0, 500, End::Never),
-    ])
-}
 
 /// The tree of these rows.
 fn built(alloc: Global) -> Option<ForkTree> {

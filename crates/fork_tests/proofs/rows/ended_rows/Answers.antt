@@ -1,5 +1,5 @@
 use Rattle.fork_tests.proofs.Samples.{six_rows}
-use Rattle.fork_tests.proofs.tree.build.ended_rows.Goals as goal
+use Rattle.fork_tests.proofs.rows.ended_rows.Goals as goal
 
 pub returns : goal.returns
 returns c =
