@@ -35,8 +35,8 @@ setup_shared = setup.setup_sync heap_row ghosts sync
 setup_sent : IsSend (setup_row heap_row ghosts)
 setup_sent = setup.setup_send heap_row ghosts send frees
 
-settings_sync : (h : clone.Ghosts heap_row.Denot) → IsSync (settings.the_field heap_row ghosts h).row
-settings_sync h = struct_sync (shape (settings.the_type heap_row ghosts h)) (search (lock.the_field_sync, setup_shared, setup_sent), (terms.the_field_sync, tt))
+settings_sync : IsSync (settings.the_field heap_row ghosts).row
+settings_sync = struct_sync (shape (settings.the_type heap_row ghosts)) (search (lock.the_field_sync, setup_shared, setup_sent), (terms.the_field_sync, tt))
 
 admission_sync : IsSync admission.the_field.row
 admission_sync = struct_sync (shape admission.the_type) (quota_sync, (lifetime.the_field_sync, tt))
@@ -61,6 +61,6 @@ service_sync h = struct_sync (shape (service.the_type heap_row ghosts h)) (
   sync,
   (
     heap.the_field_sync,
-    (settings_sync h, (admission_sync, (calls_sync h, (queue.the_field_sync, (counts_sync, tt))))),
+    (settings_sync, (admission_sync, (calls_sync h, (queue.the_field_sync, (counts_sync, tt))))),
   ),
 )
