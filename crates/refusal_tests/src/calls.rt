@@ -455,7 +455,7 @@ fn calls_are_opened(rt: HostRuntime) {
 }
 
 /// The call of this request, and what happens.
-fn goes(
+pub fn goes(
     rt: &(impl Abort + AllocGlobal),
     request: &'static [u8],
     moments: &'static [Moment],

@@ -1,17 +1,15 @@
 //! A call whose target sends it elsewhere, and one that a redirection ends, each of whose steps is made again until it meets no
 //! refusal: contacts become rows, challenges are added to the final answer, and contacts that were not tried are left in it (RFC
 //! 3261 sections 16.5 and 16.7 steps 4 and 7).
-use crate::calls::{History, Moment, Turn};
-use crate::plays::plays;
+use crate::calls::{Moment, Turn, goes};
 use call_messages::Sent;
-use call_messages::one_target::{ACK_SENT, CALLER, INVITE, INVITE_SENT, SETUP, TARGET, TRYING};
+use call_messages::one_target::{ACK_SENT, CALLER, INVITE, INVITE_SENT, TARGET, TRYING};
 use call_messages::redirecting::{
     MOVED, OTHER, OTHER_ACK_SENT, OTHER_INVITE, OTHER_MOVED, OTHER_MOVED_UP, OTHER_SENT,
     OTHER_TRYING,
 };
 use fork_call::{Cause, Taken};
 use sip_uri::{Hop, Transport};
-use std::process::Abort;
 
 // ---- an INVITE for the domain: two contacts are tried, and each asks for credentials
 
@@ -159,23 +157,6 @@ const LEFT: &[Moment] = &[
     (20, Turn::Sends(&OTHER_ACK_SENT)),
     (20, Turn::Waits(Some(520))),
 ];
-
-/// The call of this request, and what happens.
-fn goes(
-    rt: &(impl Abort + AllocGlobal),
-    request: &'static [u8],
-    moments: &'static [Moment],
-    what: &str,
-) {
-    let history = History {
-        setup: SETUP,
-        request,
-        moments,
-        begins: 0,
-        fails: 0,
-    };
-    plays(rt, &history, 0, what);
-}
 
 #[test]
 fn a_redirection_adds_rows_and_challenges_go_up(rt: HostRuntime) {

@@ -13,7 +13,10 @@ pub struct Asks(
     pub u32,
 );
 
-/// A REGISTER request, its refusal, and the text, port and end of each binding that is there behind it.
+/// The text, port and end of a binding.
+pub type There = (&'static [u8], u16, u64);
+
+/// A REGISTER request, its refusal, and each binding that is there behind it.
 pub struct Row {
     pub call_id: &'static [u8],
     pub cseq: u32,
@@ -22,7 +25,7 @@ pub struct Row {
     pub star: Option<u32>,
     pub contacts: &'static [Asks],
     pub refusal: Option<RegisterRefusal>,
-    pub there: &'static [(&'static [u8], u16, u64)],
+    pub there: &'static [There],
 }
 
 fn contact_of(asks: &Asks) -> RegisterContact<'static> {

@@ -1,5 +1,5 @@
 //! Histories of REGISTER requests of one user.
-use crate::contacts::{Asks, Row};
+use crate::contacts::{Asks, Row, There};
 use bindings::RegisterRefusal;
 
 /// Two routers that translate addresses.
@@ -288,7 +288,27 @@ pub const FIRST_ALONE: &[Row] = &[
     },
 ];
 
-/// As many contacts as a user may have, the third of which ends first, and one more.
+/// What is left of the contacts of the next table without the eighth.
+const SIXTEEN: &[There] = &[
+    (b"a", 1, 600_000),
+    (b"b", 2, 600_000),
+    (b"c", 3, 600_000),
+    (b"d", 4, 600_000),
+    (b"e", 5, 600_000),
+    (b"f", 6, 600_000),
+    (b"g", 7, 600_000),
+    (b"i", 9, 600_000),
+    (b"j", 10, 300_000),
+    (b"k", 11, 600_000),
+    (b"l", 12, 600_000),
+    (b"m", 13, 600_000),
+    (b"n", 14, 600_000),
+    (b"o", 15, 600_000),
+    (b"p", 16, 61_000),
+    (b"q", 17, 61_000),
+];
+
+/// As many contacts as a user may have, the eighth of which ends first, no later than the tenth, and one more.
 pub const MANY: &[Row] = &[
     Row {
         call_id: b"r1",
@@ -299,14 +319,14 @@ pub const MANY: &[Row] = &[
         contacts: &[
             Asks(b"a", None, None, (HOME, 1), 600),
             Asks(b"b", None, None, (HOME, 2), 600),
-            Asks(b"c", None, None, (HOME, 3), 300),
+            Asks(b"c", None, None, (HOME, 3), 600),
             Asks(b"d", None, None, (HOME, 4), 600),
-            Asks(b"e", None, None, (HOME, 5), 300),
+            Asks(b"e", None, None, (HOME, 5), 600),
             Asks(b"f", None, None, (HOME, 6), 600),
             Asks(b"g", None, None, (HOME, 7), 600),
-            Asks(b"h", None, None, (HOME, 8), 600),
+            Asks(b"h", None, None, (HOME, 8), 300),
             Asks(b"i", None, None, (HOME, 9), 600),
-            Asks(b"j", None, None, (HOME, 10), 600),
+            Asks(b"j", None, None, (HOME, 10), 300),
             Asks(b"k", None, None, (HOME, 11), 600),
             Asks(b"l", None, None, (HOME, 12), 600),
             Asks(b"m", None, None, (HOME, 13), 600),
@@ -317,14 +337,14 @@ pub const MANY: &[Row] = &[
         there: &[
             (b"a", 1, 600_000),
             (b"b", 2, 600_000),
-            (b"c", 3, 300_000),
+            (b"c", 3, 600_000),
             (b"d", 4, 600_000),
-            (b"e", 5, 300_000),
+            (b"e", 5, 600_000),
             (b"f", 6, 600_000),
             (b"g", 7, 600_000),
-            (b"h", 8, 600_000),
+            (b"h", 8, 300_000),
             (b"i", 9, 600_000),
-            (b"j", 10, 600_000),
+            (b"j", 10, 300_000),
             (b"k", 11, 600_000),
             (b"l", 12, 600_000),
             (b"m", 13, 600_000),
@@ -343,24 +363,7 @@ pub const MANY: &[Row] = &[
             Asks(b"q", None, None, (HOME, 17), 60),
         ],
         refusal: None,
-        there: &[
-            (b"a", 1, 600_000),
-            (b"b", 2, 600_000),
-            (b"d", 4, 600_000),
-            (b"e", 5, 300_000),
-            (b"f", 6, 600_000),
-            (b"g", 7, 600_000),
-            (b"h", 8, 600_000),
-            (b"i", 9, 600_000),
-            (b"j", 10, 600_000),
-            (b"k", 11, 600_000),
-            (b"l", 12, 600_000),
-            (b"m", 13, 600_000),
-            (b"n", 14, 600_000),
-            (b"o", 15, 600_000),
-            (b"p", 16, 61_000),
-            (b"q", 17, 61_000),
-        ],
+        there: SIXTEEN,
     },
     Row {
         call_id: b"r3",
@@ -370,23 +373,6 @@ pub const MANY: &[Row] = &[
         star: None,
         contacts: &[AT_HOME; 17],
         refusal: Some(RegisterRefusal::TooMany),
-        there: &[
-            (b"a", 1, 600_000),
-            (b"b", 2, 600_000),
-            (b"d", 4, 600_000),
-            (b"e", 5, 300_000),
-            (b"f", 6, 600_000),
-            (b"g", 7, 600_000),
-            (b"h", 8, 600_000),
-            (b"i", 9, 600_000),
-            (b"j", 10, 600_000),
-            (b"k", 11, 600_000),
-            (b"l", 12, 600_000),
-            (b"m", 13, 600_000),
-            (b"n", 14, 600_000),
-            (b"o", 15, 600_000),
-            (b"p", 16, 61_000),
-            (b"q", 17, 61_000),
-        ],
+        there: SIXTEEN,
     },
 ];
