@@ -1,0 +1,3 @@
+mod Named
+mod Found
+pub mod laws

@@ -1,0 +1,4 @@
+pub mod inner
+pub mod Nothing
+pub mod Shards
+pub mod Changes
