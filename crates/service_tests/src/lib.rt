@@ -13,6 +13,7 @@ mod clock;
 mod commands;
 #[cfg(test)]
 mod control;
+#[cfg(test)]
 mod counters;
 #[cfg(test)]
 mod deadlines;
