@@ -175,7 +175,7 @@ fn a_repeat_makes_nothing(rt: HostRuntime) -> Result<(), AllocError> {
 
 /// Registers two telephones of each of 100 users, again where another change of the user is under way; answers how often it was not.
 fn fill<R: Wait>(rt: &R, alloc: Global, table: &Table, asks: Asks) -> u32 {
-    let mut missed = 0;
+    let mut missed = 0u32;
     for n in 0..100u8 {
         let name = [b'u', n];
         let mut is_taken = false;
@@ -186,7 +186,7 @@ fn fill<R: Wait>(rt: &R, alloc: Global, table: &Table, asks: Asks) -> u32 {
             }
         }
         if !is_taken {
-            missed += 1;
+            missed = missed.saturating_add(1);
         }
     }
     missed

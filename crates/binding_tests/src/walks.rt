@@ -26,7 +26,7 @@ fn filled<R: Wait>(rt: &R, alloc: Global) -> Result<Table, AllocError> {
 fn walked<R: Wait>(rt: &R, table: &Table, moment: u64) -> (u32, bool) {
     let mut walk = Walk::new();
     let mut seen = [false; 256];
-    let mut count = 0;
+    let mut count = 0u32;
     let mut is_once = true;
     for _ in 0..1_000 {
         let found = table.next_user(
@@ -43,7 +43,7 @@ fn walked<R: Wait>(rt: &R, table: &Table, moment: u64) -> (u32, bool) {
         };
         is_once = is_once && !seen[at];
         seen[at] = true;
-        count += 1;
+        count = count.saturating_add(1);
     }
     (count, false)
 }
