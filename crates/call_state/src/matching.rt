@@ -14,7 +14,7 @@ use crate::state::CallState;
 use crate::transaction::MatchedTransaction;
 use sip_route::has_same_key;
 use sip_text::{Message, Method, StartLine};
-use sip_via::{BranchName, own_branch, top_and_second};
+use sip_via::{BranchName, has_second_via, own_branch};
 use std::alloc::Allocator;
 
 /// Shows that the numbers of a branch are bounded.
@@ -123,7 +123,7 @@ pub fn match_response<A: Allocator + Clone>(
     let call = state.opened().branch(0);
     are_branches(call);
     let n = target_of(branch, call)?;
-    let (_, second) = top_and_second(response);
+    let second = has_second_via(response);
     if is_for_client(state, response, second, n) {
         return Some(MatchedTransaction::Client(n));
     }

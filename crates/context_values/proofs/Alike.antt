@@ -5,6 +5,9 @@ use Rattle.std.specs.Prelude.{filter, map}
 use Rattle.std.specs.List.{list_all}
 use Rattle.std.proofs.lemmas.List.Elements.{filter-append}
 use Rattle.fork_model.specs.Groups.{numbered}
+use Rattle.context_values.specs.RowExtras.{q_at, q_of_pair}
+use Rattle.std.proofs.Common.{◌≤◌, take, get_or, sym, take_all, add-one}
+use Rattle.std.proofs.lemmas.List.{map-append}
 
 abbrev are_all : ℕ → List ℕ → Bool
 are_all q qs = list_all (λ other. other == q) qs
@@ -47,3 +50,13 @@ in_group-append group (x ∷ xs) ys = ap (λ rest. (group, x) ∷ rest) (in_grou
 
 pub one_more : (k : ℕ) → in_group 0 (numbers_below (suc k)) ≡ in_group 0 (numbers_below k) ++ (0, k) ∷ []
 one_more k = in_group-append 0 (numbers_below k) (k ∷ [])
+
+-- the q of each place, in the order of the places
+each_q : (qs : List ℕ) (k : ℕ) → k ≤ length qs → map (q_of_pair qs) (in_group 0 (numbers_below k)) ≡ take k qs
+each_q qs zero few = refl
+each_q qs (suc k) few =
+    let before = each_q qs k (omega arith) in
+    ap (map (q_of_pair qs)) (one_more k) ∙ grind (arith, common_steps, map-append)
+
+pub in_place : (qs : List ℕ) → numbered qs ≡ in_group 0 (numbers_below (length qs)) → map (q_of_pair qs) (numbered qs) ≡ qs
+in_place qs alike = ap (map (q_of_pair qs)) alike ∙ each_q qs (length qs) (omega arith) ∙ take_all (length qs) qs (omega arith)

@@ -17,7 +17,7 @@ pub use copy::{copied_challenges, copied_offers, copied_targets};
 pub use event::{Answer, Event, Target};
 pub use extras_table::ExtrasTable;
 pub use new_target::{NewTarget, contact_qs, extras_at};
-pub use numbering::{numbered, qs_at};
+pub use numbering::{numbered, qs_at, qs_in_order};
 pub use offer::Offer;
 pub use reply::{Choice, Numbers, Reply, Up};
 pub use row_extras::RowExtras;

@@ -109,3 +109,20 @@ pub fn qs_at<A: Allocator + Clone>(
     }
     Ok(ordered)
 }
+
+/// The q of all places in the order in which they are tried: the list itself where there is but one q. The only error is want of
+/// memory.
+#[tactic(auto, using(crate::proofs::Alike::in_place))]
+pub fn qs_in_order<A: Allocator + Clone>(
+    alloc: &A,
+    qs: Vec<u16, A>,
+    order: &[(u16, u16)],
+) -> Result<Vec<u16, A>, AllocError>
+    requires { order.now ≡ numbered qs.items }
+    ensures { IfOk result (λ ordered. ordered.items ≡ map (q_of_pair qs.items) order.now) }
+{
+    if are_alike(&qs) {
+        return Ok(qs);
+    }
+    qs_at(alloc, &qs, order)
+}

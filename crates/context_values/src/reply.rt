@@ -1,5 +1,5 @@
 //! What is answered to an event.
-ghost use Rattle.std.specs.Prelude.{◌≡◌, ◌≤◌, [], vec_capacity, IfOk};
+ghost use Rattle.std.specs.Prelude.{◌≡◌, ◌≤◌, [], drop, take, vec_capacity, IfOk};
 ghost use Rattle.context_values.specs.ReplyView.{up_of};
 
 use std::alloc::{AllocError, Allocator, Global};
@@ -29,24 +29,36 @@ pub enum Up {
     Final(Choice),
 }
 
-/// The rows that are tried from now on, and those that are cancelled, by rising number.
+/// The rows that are cancelled and, behind these, those that are tried from now on, each by rising number.
 #[derive(Drop)]
 pub struct Numbers<A: Allocator> {
-    pub started: Vec<u16, A>,
-    pub cancelled: Vec<u16, A>,
+    pub rows: Vec<u16, A>,
+    /// How many of them are cancelled.
+    pub cancelled: usize,
 }
 
 impl<A: Allocator + Clone> Numbers<A> {
-    /// No number, and room for so many of each; the only error is want of memory.
+    /// No number, and room for so many; the only error is want of memory.
     pub fn with_room(alloc: &A, count: usize) -> Result<Self, AllocError>
-        ensures none { IfOk result (λ numbers. (numbers.started.items ≡ []) × (numbers.cancelled.items ≡ [])) }
-        ensures room { IfOk result (λ numbers. (count ≤ vec_capacity numbers.started) × (count ≤ vec_capacity numbers.cancelled)) }
+        ensures none { IfOk result (λ numbers. (numbers.rows.items ≡ []) × (numbers.cancelled ≡ 0)) }
+        ensures room { IfOk result (λ numbers. count ≤ vec_capacity numbers.rows) }
     {
         Ok(Numbers {
-            started: Vec::with_capacity(alloc.clone()?, count)?,
-            cancelled: Vec::with_capacity(alloc.clone()?, count)?,
+            rows: Vec::with_capacity(alloc.clone()?, count)?,
+            cancelled: 0,
         })
     }
+}
+
+/// So many numbers at the front of a list, and those behind them; all where it has fewer.
+fn split_at_most(numbers: &[u16], count: usize) -> (&[u16], &[u16])
+    ensures front { result.0.now ≡ take count numbers.now }
+    ensures back { result.1.now ≡ drop count numbers.now }
+{
+    if count > numbers.len() {
+        return (numbers, &[]);
+    }
+    numbers.split_at(count)
 }
 
 /// The reply to an event: its position in the history, the rows that the request is to be sent to and
@@ -55,18 +67,19 @@ impl<A: Allocator + Clone> Numbers<A> {
 #[derive_where(Debug)]
 pub struct Reply<A: Allocator = Global> {
     pub(crate) at: u32,
-    pub(crate) started: Vec<u16, A>,
-    pub(crate) cancelled: Vec<u16, A>,
+    pub(crate) rows: Vec<u16, A>,
+    pub(crate) cancelled: usize,
     pub(crate) up: Up,
 }
 
 impl<A: Allocator> Model for Reply<A> {
+    ghost use Rattle.std.specs.Prelude.{drop, take};
     ghost use Rattle.fork_model.specs.Reply as spec;
     ghost use Rattle.context_values.specs.ReplyView.{up_of};
 
     ghost Value = { spec.Reply };
 
-    ghost view = { λ r. record { at = r.at; started = r.started.items; cancelled = r.cancelled.items; up = up_of r.up } };
+    ghost view = { λ r. record { at = r.at; started = drop r.cancelled r.rows.items; cancelled = take r.cancelled r.rows.items; up = up_of r.up } };
 }
 
 impl<A: Allocator> Reply<A> {
@@ -74,15 +87,15 @@ impl<A: Allocator> Reply<A> {
     pub fn new(at: u32, numbers: Numbers<A>, up: Up) -> Self
         ensures { result ≡ record {
           at = at;
-          started = numbers.started.items;
-          cancelled = numbers.cancelled.items;
+          started = drop numbers.cancelled numbers.rows.items;
+          cancelled = take numbers.cancelled numbers.rows.items;
           up = up_of up;
         } }
     {
-        let Numbers { started, cancelled } = numbers;
+        let Numbers { rows, cancelled } = numbers;
         Reply {
             at,
-            started,
+            rows,
             cancelled,
             up,
         }
@@ -99,14 +112,14 @@ impl<A: Allocator> Reply<A> {
     pub fn started(&self) -> &[u16]
         ensures { result.now ≡ self.now.started }
     {
-        &self.started
+        split_at_most(&self.rows, self.cancelled).1
     }
 
     /// The rows that are cancelled from now on, by rising number.
     pub fn cancelled(&self) -> &[u16]
         ensures { result.now ≡ self.now.cancelled }
     {
-        &self.cancelled
+        split_at_most(&self.rows, self.cancelled).0
     }
 
     /// What goes up.

@@ -94,14 +94,7 @@ pub fn admitted_target<A: Allocator + Clone>(
     requires readable { IsOk (target_uri request.now) }
     ensures { IfOk result (λ uri. target_uri request.now ≡ Ok uri) }
 {
-    match read_target(alloc, request) {
-        Ok(uri) => Ok(uri),
-        Err(UriFault::NoMemory) => Err(AllocError),
-        Err(UriFault::NotSip) => unreachable!(),
-        Err(UriFault::BadHost) => unreachable!(),
-        Err(UriFault::BadPort) => unreachable!(),
-        Err(UriFault::BadText) => unreachable!(),
-    }
+    SipUri::of_readable(alloc, request_uri(request))
 }
 
 /// Where the request of each row goes, in the order of the rows.

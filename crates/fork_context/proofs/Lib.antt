@@ -3,6 +3,7 @@ pub mod KeySteps
 pub mod SoundSteps
 pub mod PlainContacts
 pub mod PlainRows
+pub mod SettledNumbers
 pub mod Settling
 pub mod Numbers
 pub mod ClosingRows

@@ -1,12 +1,13 @@
 //! How a fork closes: by a 2xx, by a 6xx or by the caller's CANCEL (RFC 3261 sections 9.1, 16.7 step 5 and 16.10).
-ghost use Rattle.std.specs.Prelude.{◌≡◌, ◌≤◌, ◌+◌, ◌++◌, ◌&&◌, ◌||◌, not, true, [], length, map, slice_get, vec_capacity, filter, nat_le};
+ghost use Rattle.std.specs.Prelude.{◌≡◌, ◌≤◌, ◌+◌, ◌++◌, ◌&&◌, ◌||◌, not, true, [], drop, length, map, slice_get, take, vec_capacity, filter, nat_le};
 ghost use Rattle.fork_model.specs.Table.{is_row, is_invite};
 ghost use Rattle.fork_context.specs.Closing.{closed_row};
 ghost use Rattle.fork_context.specs.inner.Closing.{gets_cancel, is_ringing, cancel_row};
-ghost use Rattle.fork_context.specs.inner.Stepped.{IsSettled, number_if, cancelled_at};
+ghost use Rattle.fork_context.specs.inner.Stepped.{HasRoom, IsSettled, number_if, cancelled_at};
 ghost use Rattle.fork_model.specs.Groups.{numbers_below};
 
 use crate::fork::Fork;
+use context_values::Numbers;
 use fork_rank::{Kind, Status, StatusClass};
 use fork_tree::State;
 use std::alloc::Allocator;
@@ -22,30 +23,30 @@ impl<A: Allocator + Clone> Fork<A> {
     /// What follows the change of row n: in a table that was closed it gets its CANCEL where it has rung too late; a
     /// table that the change closed closes its other rows; in an open one some group may start. The numbers are those
     /// of the rows tried and cancelled since, that of row n among them where the change itself cancelled it.
+    #[tactic(auto, using(crate::proofs::SettledNumbers::closed_before, crate::proofs::SettledNumbers::closes_now, crate::proofs::SettledNumbers::goes_on))]
     pub(crate) fn settle(
         &mut self,
         n: u16,
         was_closed: bool,
         cancels: bool,
-        started: &mut Vec<u16, A>,
-        cancelled: &mut Vec<u16, A>,
+        numbers: &mut Numbers<A>,
     )
         requires there { n + 1 ≤ length self.old.rows }
-        requires none_started { started.old.items ≡ [] }
-        requires none_cancelled { cancelled.old.items ≡ [] }
-        requires room_started { length self.old.rows ≤ vec_capacity started.old }
-        requires room_cancelled { length cancelled.old.items + length self.old.rows ≤ vec_capacity cancelled.old }
-        ensures { IsSettled n was_closed cancels self.old self.new started.new.items cancelled.new.items }
+        requires room { HasRoom numbers.old self.old.rows }
+        ensures { IsSettled n was_closed cancels self.old self.new (drop numbers.new.cancelled numbers.new.rows.items) (take numbers.new.cancelled numbers.new.rows.items) }
     {
         if was_closed {
             let rings = self.gets_cancel(n);
             self.cancel_if(rings, n);
-            push_if(rings || cancels, cancelled, n);
+            push_if(rings || cancels, &mut numbers.rows, n);
+            numbers.cancelled = numbers.rows.len();
         } else if self.closed() {
-            self.shut(cancelled);
+            self.shut(&mut numbers.rows);
+            numbers.cancelled = numbers.rows.len();
         } else {
-            push_if(cancels, cancelled, n);
-            self.start(started);
+            push_if(cancels, &mut numbers.rows, n);
+            numbers.cancelled = numbers.rows.len();
+            self.start(&mut numbers.rows);
         }
     }
 

@@ -167,12 +167,12 @@ impl<A: Allocator + Clone> Fork<A> {
         let n = row.no;
         match effect {
             Effect::Rings => {
-                let numbers = Numbers::with_room(alloc, self.count() as usize)?;
+                let numbers = Numbers::with_room(alloc, self.count() as usize + 1)?;
                 self.ring(n);
                 Ok(numbers)
             }
             Effect::GetsCancel => {
-                let numbers = Numbers::with_room(alloc, self.count() as usize)?;
+                let numbers = Numbers::with_room(alloc, self.count() as usize + 1)?;
                 self.mark_cancel(n);
                 Ok(numbers)
             }

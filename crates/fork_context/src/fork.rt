@@ -1,5 +1,5 @@
 //! The table of a fork, its rows kept in a tree.
-ghost use Rattle.std.specs.Prelude.{◌≡◌, ◌≤◌, ◌+◌, ◌||◌, ℕ, true, false, [], Some, length, map, nat_eq, slice_get, vec_capacity, IfOk, OnOk, OnErr, IfSome, IfNone};
+ghost use Rattle.std.specs.Prelude.{◌≡◌, ◌≤◌, ◌+◌, ◌++◌, ◌||◌, ℕ, List, true, false, [], Some, length, map, nat_eq, slice_get, vec_capacity, IfOk, OnOk, OnErr, IfSome, IfNone};
 ghost use Rattle.std.specs.List.{list_any};
 ghost use Rattle.std.specs.Cmp.Lexicographic.{pointwise};
 ghost use Rattle.std.specs.Option.{option_map, option_copied, option_and_then};
@@ -17,7 +17,7 @@ ghost use Rattle.fork_context.specs.inner.ForkInside.{IsFork, accepts_end};
 ghost use Rattle.fork_rank.specs.KindView.{kind_of};
 ghost use Rattle.fork_context.specs.LeftView.{left_of};
 ghost use Rattle.fork_tree.specs.Ready.{IsReady, tried};
-ghost use Rattle.fork_context.specs.inner.Ready.{Starts, numbers_from};
+ghost use Rattle.fork_context.specs.inner.Ready.{AddsStarted, numbers_from};
 ghost use Rattle.fork_context.specs.inner.Stepped.{HasRoom};
 ghost use Rattle.context_values.specs.ReplyView.{choice_of};
 ghost use Rattle.fork_context.specs.RowShown.{row_shown};
@@ -302,7 +302,7 @@ impl<A: Allocator + Clone> Fork<A> {
         ensures err { OnErr result (self.new ≡ self.old) }
     {
         let (added, fresh) = below;
-        let numbers = Numbers::with_room(alloc, self.count() as usize + fresh.len())?;
+        let numbers = Numbers::with_room(alloc, self.count() as usize + fresh.len() + 1)?;
         let succeeded = succeeds(self.succeeded, &end);
         self.extras.append(fresh)?;
         let (left, challenges) = stored;
@@ -313,24 +313,23 @@ impl<A: Allocator + Clone> Fork<A> {
         Ok(numbers)
     }
 
-    /// Some group that may start is tried; the numbers of its rows.
-    pub(crate) fn start(&mut self, started: &mut Vec<u16, A>)
-        requires none { started.old.items ≡ [] }
-        requires room { length self.old.rows ≤ vec_capacity started.old }
-        ensures { Starts self.old self.new started.new.items }
+    /// Some group that may start is tried; the numbers of its rows are added.
+    #[tactic(auto, using(crate::proofs::SettledNumbers::some_started, crate::proofs::SettledNumbers::none_started))]
+    pub(crate) fn start(&mut self, numbers: &mut Vec<u16, A>)
+        requires room { length numbers.old.items + length self.old.rows ≤ vec_capacity numbers.old }
+        ensures { AddsStarted self.old self.new numbers.old.items numbers.new.items }
     {
         if let Some((first, count)) = self.start_ready() {
-            push_numbers(started, first, count);
+            push_numbers(numbers, first, count);
         }
     }
 }
 
 /// Adds so many numbers, from the first on.
 fn push_numbers<A: Allocator>(numbers: &mut Vec<u16, A>, first: u16, count: u16)
-    requires none { numbers.old.items ≡ [] }
     requires fits { first + count ≤ most_targets }
-    requires room { count ≤ vec_capacity numbers.old }
-    ensures { numbers.new.items ≡ numbers_from first count }
+    requires room { length numbers.old.items + count ≤ vec_capacity numbers.old }
+    ensures { numbers.new.items ≡ numbers.old.items ++ numbers_from first count }
 {
     for n in 0..count {
         numbers.push_reserved(first + n);

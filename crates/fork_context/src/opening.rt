@@ -11,7 +11,7 @@ ghost use Rattle.fork_context.specs.inner.Opening.{waiting_table};
 ghost use Rattle.fork_context.specs.Refusals.{HasTwice};
 
 use crate::fork::Fork;
-use context_values::{ExtrasTable, Target, numbered, qs_at, target_extras, target_qs};
+use context_values::{ExtrasTable, Target, numbered, qs_in_order, target_extras, target_qs};
 use fork_rank::{Kind, Rules};
 use fork_tree::ForkTree;
 use std::alloc::{AllocError, Allocator};
@@ -76,7 +76,8 @@ impl<A: Allocator + Clone> Fork<A> {
     {
         let qs = target_qs(alloc, targets)?;
         let order = numbered(alloc, &qs)?;
-        let tree = ForkTree::new(alloc.clone()?, rules, &qs_at(alloc, &qs, &order)?)?;
+        let ordered = qs_in_order(alloc, qs, &order)?;
+        let tree = ForkTree::new(alloc.clone()?, rules, &ordered)?;
         let extras = extras_by_key(alloc, targets, &order)?;
         Ok(Fork::of(kind, tree, extras))
     }

@@ -1,5 +1,5 @@
 //! How a fork takes an event (RFC 3261 sections 9.1 and 16.7 to 16.10).
-ghost use Rattle.std.specs.Prelude.{◌≡◌, nat_lt, slice_get, IfOk, OnOk, OnErr};
+ghost use Rattle.std.specs.Prelude.{◌≡◌, drop, nat_lt, slice_get, take, IfOk, OnOk, OnErr};
 ghost use Rattle.fork_model.specs.Step.{next};
 ghost use Rattle.fork_model.specs.Reply.{provisional, success, success_goes_up, IsReply};
 ghost use Rattle.fork_model.specs.Series.{IsInSeries};
@@ -51,7 +51,7 @@ impl<A: Allocator + Clone> Fork<A> {
     fn change(&mut self, alloc: &A, event: &Event<A>, at: u32) -> Result<Numbers<A>, AllocError>
         requires series { IsInSeries self.old }
         requires whole { IsClosedWhole self.old }
-        ensures ok { IfOk result (λ numbers. IsStepped self.old (event_of event.now) at self.new numbers.started.items numbers.cancelled.items) }
+        ensures ok { IfOk result (λ numbers. IsStepped self.old (event_of event.now) at self.new (drop numbers.cancelled numbers.rows.items) (take numbers.cancelled numbers.rows.items)) }
         ensures err { OnErr result (self.new ≡ self.old) }
     {
         let Some(change) = self.change_of(event) else {
@@ -60,20 +60,15 @@ impl<A: Allocator + Clone> Fork<A> {
         match change {
             Change::Closes => {
                 let mut numbers = Numbers::with_room(alloc, self.count() as usize)?;
-                self.shut(&mut numbers.cancelled);
+                self.shut(&mut numbers.rows);
+                numbers.cancelled = numbers.rows.len();
                 Ok(numbers)
             }
             Change::Row(row, effect) => {
                 let was_closed = self.closed();
                 let cancels = effect.cancels();
                 let mut numbers = self.apply(alloc, &row, effect, at)?;
-                self.settle(
-                    row.no,
-                    was_closed,
-                    cancels,
-                    &mut numbers.started,
-                    &mut numbers.cancelled,
-                );
+                self.settle(row.no, was_closed, cancels, &mut numbers);
                 Ok(numbers)
             }
         }

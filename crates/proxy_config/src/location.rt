@@ -18,11 +18,12 @@ pub struct Location<A: Allocator = Global> {
     q: u16,
     uri: SipUri<A>,
     hop: Option<Hop>,
+    next_hop: Option<Hop>,
     longest: u64,
 }
 
 impl<A: Allocator> Model for Location<A> {
-    ghost use Rattle.std.specs.Prelude.{◌≤◌};
+    ghost use Rattle.std.specs.Prelude.{◌≡◌, ◌≤◌};
     ghost use Rattle.fork_rank.specs.Field.{most_q};
     ghost use Rattle.proxy_config.specs.Setup as spec;
 
@@ -30,24 +31,13 @@ impl<A: Allocator> Model for Location<A> {
 
     ghost view = { λ l. record { user = l.user.items; q = l.q; uri = l.uri; hop = l.hop; longest = l.longest } };
 
-    ghost invariant = { λ l. l.q ≤ most_q };
+    ghost invariant = { λ l. record {
+      q : l.q ≤ most_q;
+      next_hop : l.next_hop ≡ spec.hop_or_that_of l.hop l.uri;
+    } };
 }
 
 impl<A: Allocator> Location<A> {
-    /// Where this user may be reached, at a q of at most one: by the hop of the URI, for so many milliseconds at most.
-    pub(crate) fn new(user: Vec<u8, A>, q: u16, uri: SipUri<A>, longest: u64) -> Self
-        requires { q ≤ most_q }
-        ensures { result ≡ record { user = user.items; q = q; uri = uri; hop = None; longest = longest } }
-    {
-        Location {
-            user,
-            q,
-            uri,
-            hop: None,
-            longest,
-        }
-    }
-
     /// A branch to the location rings so long at most where it has the usual longest time.
     pub(crate) fn ring(&mut self, longest: u64)
         ensures { self.new ≡ with_longest longest self.old }
@@ -95,14 +85,28 @@ impl<A: Allocator> Location<A> {
 }
 
 impl<A: Allocator + Clone> Location<A> {
+    /// Where this user may be reached, at a q of at most one: by the hop of the URI, for so many milliseconds at most. The hop is
+    /// read here, and not with each request.
+    pub(crate) fn new(user: Vec<u8, A>, q: u16, uri: SipUri<A>, longest: u64) -> Self
+        requires { q ≤ most_q }
+        ensures { result ≡ record { user = user.items; q = q; uri = uri; hop = None; longest = longest } }
+    {
+        let next_hop = uri.next_hop();
+        Location {
+            user,
+            q,
+            uri,
+            hop: None,
+            next_hop,
+            longest,
+        }
+    }
+
     /// The hop that a request to the location goes by: its own, if it has one, or else that of its URI (RFC 3261 section 16.6
     /// step 7).
     pub fn next_hop(&self) -> Option<Hop>
         ensures { result ≡ next_hop self.now }
     {
-        match self.hop {
-            Some(hop) => Some(hop),
-            None => self.uri.next_hop(),
-        }
+        self.next_hop
     }
 }

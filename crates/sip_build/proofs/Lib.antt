@@ -10,6 +10,5 @@ pub mod HeaderRunTexts
 pub mod UpwardTexts
 pub mod Placed
 pub mod FirstHops
-pub mod Digits
 pub mod Routes
 pub mod PlainCSeq

@@ -96,8 +96,8 @@ fn place_under(out: &mut [u8], at: usize, value: &[u8], name: Option<&[u8]>) -> 
     }
 }
 
-/// Writes the header lines.
-fn place_headers(out: &mut [u8], at: usize, headers: HeaderLines<'_>) -> usize
+/// Writes the header lines one by one.
+fn place_each(out: &mut [u8], at: usize, headers: HeaderLines<'_>) -> usize
     requires { at + length (lines_text (views headers)) ≤ length out.old }
     ensures { Placed out.old out.new at (lines_text (views headers.entry)) result }
 {
@@ -106,6 +106,17 @@ fn place_headers(out: &mut [u8], at: usize, headers: HeaderLines<'_>) -> usize
         end = place_line(out, end, line.name, line.value);
     }
     end
+}
+
+/// Writes the header lines, at once where they stand in their message as they are written.
+fn place_headers(out: &mut [u8], at: usize, headers: HeaderLines<'_>) -> usize
+    requires { at + length (lines_text (views headers)) ≤ length out.old }
+    ensures { Placed out.old out.new at (lines_text (views headers.entry)) result }
+{
+    match headers.as_written() {
+        Some(text) => place(out, at, text),
+        None => place_each(out, at, headers),
+    }
 }
 
 /// Writes those of the header lines that are picked.

@@ -4,7 +4,7 @@ ghost use Rattle.std.specs.Prelude.{◌≡◌, IfOk};
 ghost use Rattle.std.specs.Char.{is_ascii_digit};
 ghost use Rattle.std.specs.List.{list_all};
 ghost use Rattle.std.specs.Str.{str_to_ascii_lowercase};
-ghost use Rattle.sip_lex.specs.Bytes.{is_space, is_token, is_token_byte};
+ghost use Rattle.sip_lex.specs.Bytes.{is_space, is_token, is_token_byte, is_token_mark};
 
 use std::alloc::{AllocError, Allocator};
 
@@ -15,10 +15,19 @@ pub fn is_space(byte: u8) -> bool
     byte == b' ' || byte == b'\t'
 }
 
-fn is_token_byte(byte: u8) -> bool
+/// Whether a byte is one of those that may stand in a token beside letters and digits.
+#[inline(never)]
+fn is_token_mark(byte: u8) -> bool
+    ensures { result ≡ is_token_mark byte }
+{
+    b"-.!%*_+`'~".contains(&byte)
+}
+
+/// Whether a byte may stand in a token. Most are letters.
+pub(crate) fn is_token_byte(byte: u8) -> bool
     ensures { result ≡ is_token_byte byte }
 {
-    byte.is_ascii_alphanumeric() || b"-.!%*_+`'~".contains(&byte)
+    byte.is_ascii_alphabetic() || byte.is_ascii_digit() || is_token_mark(byte)
 }
 
 fn are_token_bytes(bytes: &[u8]) -> bool

@@ -18,6 +18,7 @@ mod quoted;
 mod sheltered;
 mod space;
 mod tag;
+mod token;
 
 pub use bytes::{are_digits, is_space, is_token, lowered};
 pub use cut::{cut_at, cut_at_space, cut_near};
@@ -31,3 +32,4 @@ pub use quoted::cut_quoted;
 pub use sheltered::{Shelter, cut_outside, is_closed};
 pub use space::{trim, trim_end, trim_start};
 pub use tag::tag_of;
+pub use token::cut_token;

@@ -2,24 +2,25 @@
 
 ghost use Rattle.std.specs.Prelude.{◌≡◌, ◌^◌, ◌++◌, OnOk, OnErr};
 ghost use Rattle.std.specs.Fmt.{decimal};
-ghost use Rattle.sip_lex.specs.Number.{number, number_within, plain_number_within, with_digit};
-ghost use Rattle.sip_lex.specs.inner.Number.{below};
+ghost use Rattle.sip_lex.specs.Number.{number_within, plain_number_within};
+ghost use Rattle.sip_lex.specs.inner.Number.{number_if_digits, with_digit_if_one};
 
-use crate::bytes::are_digits;
 use itoa::Buffer;
 use std::alloc::{AllocError, Allocator};
 
-/// A number with one more digit, where it fits 64 bits.
+/// A number with one more digit, where the byte is one and the number fits 64 bits.
 fn with_digit(n: u64, digit: u8) -> Option<u64>
-    ensures { result ≡ below (2 ^ 64) (with_digit n digit) }
+    ensures { result ≡ with_digit_if_one n digit }
 {
-    n.checked_mul(10)?
-        .checked_add(u64::from(digit.saturating_sub(b'0')))
+    if !digit.is_ascii_digit() {
+        return None;
+    }
+    n.checked_mul(10)?.checked_add(u64::from(digit - b'0'))
 }
 
-/// The number that digits spell, where it fits 64 bits.
+/// The number that a text spells, where each of its bytes is a digit and the number fits 64 bits.
 fn number_of(digits: &[u8]) -> Option<u64>
-    ensures { result ≡ below (2 ^ 64) (number digits.now) }
+    ensures { result ≡ number_if_digits digits.now }
 {
     let mut n = 0;
     for digit in digits {
@@ -37,7 +38,7 @@ fn number_of(digits: &[u8]) -> Option<u64>
 pub fn read_number(digits: &[u8], limit: u64) -> Option<u64>
     ensures { result ≡ number_within limit digits.now }
 {
-    if digits.is_empty() || !are_digits(digits) {
+    if digits.is_empty() {
         return None;
     }
     let n = number_of(digits)?;

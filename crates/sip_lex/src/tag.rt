@@ -8,7 +8,7 @@ ghost use Rattle.sip_lex.specs.Outside.{pieces_outside_behind};
 ghost use Rattle.sip_lex.specs.Sheltered.{cut_outside};
 ghost use Rattle.sip_lex.specs.Tag.{behind_angles, is_tag_name, tag_of, tag_of_params, value_of_cut};
 
-use crate::cut::cut_at;
+use crate::cut::{cut_at, cut_near};
 use crate::sheltered::{Shelter, cut_outside};
 use crate::space::trim;
 
@@ -33,7 +33,7 @@ fn tag_of_params(params: Option<&[u8]>) -> Option<&[u8]>
     let mut rest = params;
     while let Some(text) = rest {
         let (param, after) = cut_outside(text, b';', Shelter::QuotesAndAngles);
-        let (name, value) = cut_at(param, b'=');
+        let (name, value) = cut_near(param, b'=');
         if is_tag_name(name) {
             return value_of_cut(value);
         }

@@ -3,11 +3,12 @@ use Rattle.sip_text.proofs.Common.{◌≡◌, ℕ, ◌+◌, ◌-◌, ◌≤◌, 
 use Rattle.sip_text.proofs.Common.{is_token, trim, trim_end, trim_start, cut, is, Headers, HeaderText, continued, valued, begins_with_space, ended, header_in, headers_in, header_of, header_of_cut, headers_at, joined, part_at, tail_at}
 use Rattle.sip_text.proofs.laws.Good.{trim_front, trim_trimmed}
 use Rattle.sip_text.proofs.Tails.{value_ends}
-use Rattle.sip_text.specs.inner.Heads.{front_header, put}
+use Rattle.sip_text.specs.inner.Heads.{IsNamed, front_header, put}
 use Rattle.sip_text.specs.Reading.{Tail}
 use Rattle.std.proofs.lemmas.Bool.{not-true}
 use Rattle.std.proofs.lemmas.List.{reverse-reverse, map_push, take-take}
-use Rattle.sip_lex.proofs.laws.Trims.{trim_end-reverse, trim_end-whole, trim_start-none, trim_start-whole}
+use Rattle.sip_lex.proofs.laws.Cuts.{cut_again}
+use Rattle.sip_lex.proofs.laws.Trims.{token_lacks, trim_end-reverse, trim_end-token, trim_end-whole, trim_start-none, trim_start-whole}
 use Rattle.sip_text.specs.declared.place.LinePlaces.{LinePlaces}
 use Rattle.sip_text.specs.declared.place.PartPlace.{PartPlace}
 use Rattle.sip_text.specs.inner.Kept.{AreLinesWithin, IsAt, IsEnd, IsLineWithin, IsWithin, line_moved, moved}
@@ -62,6 +63,15 @@ pub trimmed_end : (line front raw rest : List ℕ) → line ≡ front ++ 58 ∷ 
 trimmed_end line front raw rest e r =
     let t = trim_start-whole raw in
     (front ++ 58 ∷ t.gap, e ∙ ap (λ (xs : List ℕ). front ++ 58 ∷ xs) (t.whole ∙ ap (λ (xs : List ℕ). t.gap ++ xs) (sym r)) ∙ sym (append_assoc front (58 ∷ t.gap) rest))
+
+pub token_named : (line name raw : List ℕ) → is_token name ≡ true → line ≡ name ++ 58 ∷ raw → IsNamed line name raw
+token_named line name raw token whole = record {
+  front = name;
+  cuts = ap (cut (is 58)) whole ∙ cut_again 58 name (Some raw) (token_lacks 58 name refl token);
+  whole = whole;
+  trimmed = sym (trim_end-token name token);
+  token = ap is_token (trim_end-token name token) ∙ token;
+}
 
 pub header_is_at : (line front raw name value : List ℕ) → (front, Some raw) ≡ cut (is 58) line → name ≡ trim_end front → value ≡ trim raw → is_token (trim_end front) ≡ true → found (record { name = name; value = value }) ≡ header_of line []
 header_is_at line front raw name value e n v token =

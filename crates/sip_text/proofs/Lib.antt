@@ -4,6 +4,7 @@ pub mod Gaps
 pub mod Groups
 pub mod Grown
 pub mod HeaderPlaces
+pub mod LinesWithin
 pub mod NamedValues
 pub mod Heads
 pub mod Joins
@@ -18,5 +19,6 @@ pub mod StartLines
 pub mod Steps
 pub mod Tails
 pub mod TextLines
+pub mod SpelledLines
 pub mod Zeroed
 pub mod laws

@@ -2,3 +2,5 @@ pub mod Found
 pub mod Heads
 pub mod Kept
 pub mod Seen
+pub mod Written
+pub mod Within

@@ -1,6 +1,6 @@
 //! The header fields that reading looks at, found in one walk over the header lines.
 
-ghost use Rattle.std.specs.Prelude.{◌≡◌, ◌∷◌, ◌++◌, List, ℕ, [], if◌then◌else◌, option_map};
+ghost use Rattle.std.specs.Prelude.{◌≡◌, ◌∷◌, ◌++◌, List, ℕ, [], if◌then◌else◌, length, option_map};
 ghost use Rattle.std.specs.Option.{option_copied};
 ghost use Rattle.std.specs.Str.{bytes_eq, str_to_ascii_lowercase};
 ghost use Rattle.sip_text.specs.declared.needed.MandatoryHeader.{MandatoryHeader};
@@ -8,12 +8,13 @@ ghost use Rattle.sip_text.specs.Fields.{length_name, needed_name};
 ghost use Rattle.sip_text.specs.Name.{same_name};
 ghost use Rattle.sip_text.specs.Text.{HeaderText};
 ghost use Rattle.sip_text.specs.inner.Found.{Finds, got, is_length, is_needed, is_same, missing_of, put_first, said_then};
+ghost use Rattle.sip_text.specs.inner.Within.{AreLinesWithin, IsLineWithin};
 ghost use Rattle.sip_text.specs.Seen.{header_in, headers_in, part_at};
 
 use crate::fields::{BodyLength, LENGTH_NAME, length_number, says};
 use crate::name::full_name;
 use crate::needed::MandatoryHeader;
-use crate::place::{LinePlaces, PartPlace, part_at};
+use crate::place::{LinePlaces, PartPlace, part_at, part_within};
 
 /// Which of the fields that reading looks at a header line is.
 #[derive(Clone, Copy)]
@@ -130,13 +131,14 @@ impl Found {
 
     /// Adds a header line by its places in a text.
     fn add(self, text: &[u8], line: LinePlaces) -> Found
+        requires { IsLineWithin (length text.now) line }
         ensures { (hs : List HeaderText) → Finds text.now hs self → Finds text.now (hs ++ header_in text.now line ∷ []) result }
     {
-        match field_named(part_at(text, line.name)) {
+        match field_named(part_within(text, line.name)) {
             Field::Needed(which) => self.add_needed(which, line.value),
             Field::Length => {
                 let mut found = self;
-                found.length = said_then(found.length, part_at(text, line.value));
+                found.length = said_then(found.length, part_within(text, line.value));
                 found
             }
             Field::Other => self,
@@ -173,8 +175,9 @@ impl Found {
     }
 }
 
-/// What reading has to know of the header lines at such places of a text.
+/// What reading has to know of the header lines at such places within a text.
 pub fn found_in(text: &[u8], lines: &[LinePlaces]) -> Found
+    requires { AreLinesWithin (length text.now) lines.now }
     ensures { Finds text.now (headers_in text.now lines.now) result }
 {
     let mut found = Found::none();

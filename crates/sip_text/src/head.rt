@@ -1,10 +1,10 @@
 //! The header lines.
 
-ghost use Rattle.std.specs.Prelude.{◌≡◌, ◌+◌, ◌≤◌, [], drop, length, option_map, take, IfOk, IfErr, IfSome, OnOk, Some, false};
+ghost use Rattle.std.specs.Prelude.{◌≡◌, ◌+◌, ◌≤◌, [], drop, length, option_map, take, IfOk, IfErr, IfNone, IfSome, OnOk, None, Some, false};
 ghost use Rattle.sip_lex.specs.Bytes.{trim};
 ghost use Rattle.sip_lex.specs.Pieces.{pieces};
 ghost use Rattle.sip_text.specs.Fault.{Fails, Gives};
-ghost use Rattle.sip_text.specs.inner.Heads.{continued, front_header, or_bad, put, valued, with_part};
+ghost use Rattle.sip_text.specs.inner.Heads.{IsNamed, continued, front_header, or_bad, put, valued, with_part};
 ghost use Rattle.sip_text.specs.inner.Kept.{AreLinesWithin, IsAt, IsEnd, IsLineWithin, IsWithin};
 ghost use Rattle.sip_text.specs.Reading.{begins_with_space, header_of, headers_at, tail_at};
 ghost use Rattle.sip_text.specs.Seen.{header_in, headers_in, part_at};
@@ -12,7 +12,7 @@ ghost use Rattle.sip_text.specs.Seen.{header_in, headers_in, part_at};
 use crate::fault::ReadFault;
 use crate::place::{LinePlaces, PartPlace, part_at, place_at_end};
 use crate::write::append_pieces;
-use sip_lex::{cut_near, first_line, is_space, is_token, trim, trim_end, trim_start};
+use sip_lex::{cut_near, cut_token, first_line, is_space, is_token, trim, trim_end, trim_start};
 use std::alloc::{AllocError, Allocator};
 
 fn begins_with_space(text: &[u8]) -> bool
@@ -24,10 +24,10 @@ fn begins_with_space(text: &[u8]) -> bool
     }
 }
 
-/// Where the name and the value of a header line stand in it; None where it has none.
-fn places_of(line: &[u8]) -> Option<LinePlaces>
-    ensures value { option_map (header_in line.now) result ≡ header_of line.now [] }
-    ensures within { IfSome result (λ places. IsLineWithin (length line.now) places) }
+/// The name of a header line, and what stands behind the colon, where space may stand between the two.
+fn spaced_name(line: &[u8]) -> Option<(&[u8], &[u8])>
+    ensures found { IfSome result (λ p. IsNamed line.now p.0.now p.1.now) }
+    ensures none { IfNone result (header_of line.now [] ≡ None) }
 {
     let (front, raw) = cut_near(line, b':');
     let raw = raw?;
@@ -35,6 +35,30 @@ fn places_of(line: &[u8]) -> Option<LinePlaces>
     if !is_token(name) {
         return None;
     }
+    Some((name, raw))
+}
+
+/// The name of a header line, and what stands behind its colon; None where it has none. In most lines the name stands right before
+/// the colon.
+#[tactic(auto, using(crate::proofs::HeaderPlaces::token_named))]
+fn name_and_rest(line: &[u8]) -> Option<(&[u8], &[u8])>
+    ensures found { IfSome result (λ p. IsNamed line.now p.0.now p.1.now) }
+    ensures none { IfNone result (header_of line.now [] ≡ None) }
+{
+    match cut_token(line, b':') {
+        Some(found) => Some(found),
+        None => spaced_name(line),
+    }
+}
+
+/// Where the name and the value of a header line stand in it; None where it has none.
+fn places_of(line: &[u8]) -> Option<LinePlaces>
+    ensures value { option_map (header_in line.now) result ≡ header_of line.now [] }
+    ensures within { IfSome result (λ places. IsLineWithin (length line.now) places) }
+{
+    let Some((name, raw)) = name_and_rest(line) else {
+        return None;
+    };
     let rest = trim_start(raw);
     let value = place_at_end(line, rest, trim_end(rest).len());
     Some(LinePlaces {

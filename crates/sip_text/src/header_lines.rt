@@ -1,22 +1,32 @@
 //! Header lines that stand one behind another.
 
-ghost use Rattle.std.specs.Prelude.{◌≡◌, ◌≤◌, ◌∷◌, [], length, take, drop, IfNone, IfSome, option_map, slice_get, IsTrue, ◌↔◌};
-ghost use Rattle.sip_text.specs.Seen.{headers_in, view_line, views};
+ghost use Rattle.std.specs.Prelude.{length};
+ghost use Rattle.std.proofs.Props.{props};
+ghost use Rattle.sip_text.specs.inner.Within.{AreLinesWithin};
 
 use crate::parts::HeaderLine;
-use crate::place::{LinePlaces, header_in};
+use crate::place::{LinePlaces, line_within};
+use crate::written::lines_end;
 
-/// Header lines that stand one behind another in a message, in order: all of them, or some.
+/// Header lines that stand one behind another in a message, in order: all of them, or some. Their places lie within the text.
 #[derive(Clone, Copy)]
 pub struct HeaderLines<'a> {
     text: &'a [u8],
     places: &'a [LinePlaces],
+    ghost within: { AreLinesWithin (length text.now) places.now } by { Prim.hlevel props },
 }
 
 impl<'a> HeaderLines<'a> {
-    /// The header lines at such places of a text.
+    ghost use Rattle.std.specs.Prelude.{◌≡◌, ◌≤◌, ◌∷◌, [], length, take, drop, IfNone, IfSome, option_map, slice_get, IsTrue, ◌↔◌};
+    ghost use Rattle.std.specs.List.{flat_map};
+    ghost use Rattle.sip_text.specs.Seen.{headers_in, view_line, views};
+    ghost use Rattle.sip_text.specs.Text.{header_text};
+    ghost use Rattle.sip_text.specs.inner.Within.{AreLinesWithin};
+
+    /// The header lines at such places within a text.
     #[tactic(auto, unfolding(crate::specs::Seen::views))]
     pub(crate) fn new(text: &'a [u8], places: &'a [LinePlaces]) -> HeaderLines<'a>
+        requires { AreLinesWithin (length text.now) places.now }
         ensures { views result ≡ headers_in text.now places.now }
     {
         HeaderLines { text, places }
@@ -50,12 +60,12 @@ impl<'a> HeaderLines<'a> {
     }
 
     /// The one at a place, if there are so many.
-    #[tactic(auto, unfolding(crate::specs::Seen::views))]
+    #[tactic(auto, unfolding(crate::specs::Seen::views), using(crate::proofs::LinesWithin::get_within))]
     pub fn get(self, place: usize) -> Option<HeaderLine<'a>>
         ensures { option_map view_line result ≡ slice_get (views self.entry) place }
     {
         let places = self.places.get(place)?;
-        Some(header_in(self.text, *places))
+        Some(line_within(self.text, *places))
     }
 
     /// The first, and those behind it.
@@ -67,7 +77,7 @@ impl<'a> HeaderLines<'a> {
         match self.places {
             [] => None,
             [first, rest @ ..] => Some((
-                header_in(self.text, *first),
+                line_within(self.text, *first),
                 HeaderLines {
                     text: self.text,
                     places: rest,
@@ -77,7 +87,7 @@ impl<'a> HeaderLines<'a> {
     }
 
     /// Those before a place, and those from it on.
-    #[tactic(auto, unfolding(crate::specs::Seen::views))]
+    #[tactic(auto, unfolding(crate::specs::Seen::views), using(crate::proofs::LinesWithin::front_within, crate::proofs::LinesWithin::back_within))]
     pub fn split_at(self, place: usize) -> (HeaderLines<'a>, HeaderLines<'a>)
         requires { place ≤ length (views self) }
         ensures front { views result.0 ≡ take place (views self.entry) }
@@ -95,10 +105,28 @@ impl<'a> HeaderLines<'a> {
             },
         )
     }
+
+    /// The text that spells them, where it stands in that of the message: so stand those that came in the form in which they are
+    /// written, and were not changed.
+    #[tactic(auto, unfolding(crate::specs::Seen::views))]
+    pub fn as_written(self) -> Option<&'a [u8]>
+        ensures { IfSome result (λ text. text.now ≡ flat_map header_text (views self.entry)) }
+    {
+        let start = match self.places {
+            [] => 0,
+            [first, ..] => first.name.start,
+        };
+        if start > self.text.len() {
+            return None;
+        }
+        let end = lines_end(self.text, start, self.places)?;
+        Some(&self.text[start..end])
+    }
 }
 
 impl<'a> Iterator for HeaderLines<'a> {
     ghost use Rattle.std.specs.Iterator.{YieldsFirstBy, item_count};
+    ghost use Rattle.sip_text.specs.Seen.{view_line, views};
 
     type Item = HeaderLine<'a>;
 

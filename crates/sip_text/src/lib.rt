@@ -20,6 +20,7 @@ mod place;
 mod read;
 mod start;
 mod write;
+mod written;
 
 pub use fault::ReadFault;
 pub use header_lines::HeaderLines;

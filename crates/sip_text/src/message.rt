@@ -7,7 +7,7 @@ use crate::method::Method;
 use crate::name::HeaderValues;
 use crate::needed::MandatoryHeader;
 use crate::parts::{CSeqLine, StartLine};
-use crate::place::{LinePlaces, PartPlace, StartPlaces, part_at, start_in};
+use crate::place::{LinePlaces, PartPlace, StartPlaces, part_at, start_in, start_within};
 use crate::read::read_all;
 use crate::write::append_message;
 use sip_lex::tag_of;
@@ -79,7 +79,7 @@ impl<A: Allocator> Message<A> {
     pub fn start(&self) -> StartLine<'_>
         ensures { view_start result ≡ self.now.start }
     {
-        start_in(&self.text, self.start)
+        start_within(&self.text, self.start)
     }
 
     /// The method of a request (RFC 3261 section 7.1); None for a response.
@@ -192,8 +192,8 @@ impl<A: Allocator> Message<A> {
         part_at(&self.text, self.body)
     }
 
-    /// Puts another value in the place of the one of a header line, whose name stays. It takes no memory as long as the values
-    /// that were put in since the message was read are 256 bytes at most.
+    /// Puts another value in the place of the one of a header line, whose name stays. In a request it takes no memory as
+    /// long as the values that were put in since it was read are 192 bytes at most, and it was not shrunk.
     ///
     /// # Errors
     ///
@@ -233,6 +233,14 @@ impl<A: Allocator> Message<A> {
         self.lines.remove(place);
     }
 
+    /// Gives back the memory of the message in which nothing stands. That is for a message that is kept.
+    pub fn shrink(&mut self)
+        ensures { self.new ≡ self.old }
+    {
+        self.text.shrink_to_fit();
+        self.lines.shrink_to_fit();
+    }
+
     /// Appends the text that spells the message: reading it gives the message back. `out` grows once
     /// at most.
     ///
@@ -263,7 +271,7 @@ impl<A: Allocator + Clone> Message<A> {
 
     /// The message that a text spells (RFC 3261 sections 7 and 25.1). Empty lines before it are
     /// skipped; what follows the body that Content-Length gives is no part of it. It takes two allocations where it has
-    /// at most 16 header lines and none is continued: one of the text with 256 bytes more, and one of the places of the
+    /// at most 16 header lines and none is continued: one of the text, a request's with 192 bytes more, and one of the places of the
     /// header lines in it.
     ///
     /// # Errors

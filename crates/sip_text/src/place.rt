@@ -53,6 +53,15 @@ pub fn part_at(text: &[u8], place: PartPlace) -> &[u8]
     &behind[..place.len]
 }
 
+/// The part of a text at a place within it.
+#[inline(always)]
+pub fn part_within(text: &[u8], place: PartPlace) -> &[u8]
+    requires { IsWithin (length text.now) place }
+    ensures { result.now ≡ part_at text.now place }
+{
+    &text[place.start..place.start + place.len]
+}
+
 /// Where so many bytes stand in a text at the front of what it ends with.
 pub fn place_at_end(text: &[u8], end: &[u8], len: usize) -> PartPlace
     requires end { IsEnd text.now end.now }
@@ -86,13 +95,15 @@ impl LinePlaces {
     }
 }
 
-/// The header line at such places of a text.
-pub fn header_in(text: &[u8], places: LinePlaces) -> HeaderLine<'_>
+/// The header line at such places within a text.
+#[inline(always)]
+pub fn line_within(text: &[u8], places: LinePlaces) -> HeaderLine<'_>
+    requires { IsLineWithin (length text.now) places }
     ensures { header_in text.now places ≡ view_line result }
 {
     HeaderLine {
-        name: part_at(text, places.name),
-        value: part_at(text, places.value),
+        name: part_within(text, places.name),
+        value: part_within(text, places.value),
     }
 }
 
@@ -134,6 +145,24 @@ pub fn start_in(text: &[u8], places: StartPlaces) -> StartLine<'_>
         StartPlaces::Response { status, reason } => StartLine::Response {
             status,
             reason: part_at(text, reason),
+        },
+    }
+}
+
+/// The start line at such places within a text.
+#[inline(always)]
+pub fn start_within(text: &[u8], places: StartPlaces) -> StartLine<'_>
+    requires { IsStartWithin (length text.now) places }
+    ensures { view_start result ≡ start_in text.now places }
+{
+    match places {
+        StartPlaces::Request { method, uri } => StartLine::Request {
+            method: part_within(text, method),
+            uri: part_within(text, uri),
+        },
+        StartPlaces::Response { status, reason } => StartLine::Response {
+            status,
+            reason: part_within(text, reason),
         },
     }
 }

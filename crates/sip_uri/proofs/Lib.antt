@@ -7,9 +7,11 @@ pub mod Items
 pub mod Keys
 pub mod Listed
 pub mod Params
+pub mod Readable
 pub mod Readings
 pub mod Requested
 pub mod Requests
 pub mod Sorted
 pub mod Tails
+pub mod TwoTexts
 pub mod Written

@@ -15,6 +15,7 @@ mod host;
 mod key;
 mod next;
 mod text;
+mod texts;
 mod uri;
 mod write;
 

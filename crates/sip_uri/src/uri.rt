@@ -1,6 +1,6 @@
 //! SIP URIs.
 
-ghost use Rattle.std.specs.Prelude.{◌≡◌, ◌+◌, ◌≤◌, ◌++◌, ◌↔◌, IfOk, IfErr, IsOk, OnOk, OnErr, IsTrue, Ok, Bool, List, ℕ, length, vec_capacity, vec_len};
+ghost use Rattle.std.specs.Prelude.{◌≡◌, ◌+◌, ◌≤◌, ◌++◌, ◌↔◌, IfOk, IfErr, IsOk, OnOk, OnErr, IsTrue, Ok, Bool, List, ℕ, drop, length, vec_capacity, vec_len};
 ghost use Rattle.std.specs.List.{list_all, list_any};
 ghost use Rattle.std.specs.List.Sorted.{IsStrictlySortedBy};
 ghost use Rattle.std.specs.Ordering.{nat_cmp};
@@ -10,15 +10,19 @@ ghost use Rattle.sip_uri.specs.Fault.{Gives, refusal};
 ghost use Rattle.sip_uri.specs.Grammar.{IsUri, is_uri_byte};
 ghost use Rattle.sip_uri.specs.Hop.{hop_of};
 ghost use Rattle.sip_uri.specs.Key.{counted, key_of, key_params};
-ghost use Rattle.sip_uri.specs.Reading.{read_uri};
+ghost use Rattle.sip_uri.specs.Reading.{parts_of, read_uri, uri_of};
+ghost use Rattle.sip_uri.specs.inner.Key.{parts_key};
+ghost use Rattle.sip_uri.specs.inner.Seen.{parts};
 ghost use Rattle.sip_uri.specs.Uri.{Uri, request_uri, requested, spelling};
 
-use crate::cut::cut_body;
+use crate::cut::{UriParts, cut_body, user_and_rest};
 use crate::fault::UriFault;
 use crate::hop::Hop;
-use crate::key::make_key;
+use crate::host::cut_host;
+use crate::key::append_key;
 use crate::next::hop_of;
 use crate::text::cut_uri;
+use crate::texts::UriTexts;
 use crate::write::append_request_uri;
 use std::alloc::{AllocError, Allocator};
 use std::marker::Model;
@@ -26,8 +30,7 @@ use std::marker::Model;
 /// A SIP URI: its text as written, and its key.
 #[derive(Drop)]
 pub struct SipUri<A: Allocator> {
-    text: Vec<u8, A>,
-    key: Vec<u8, A>,
+    texts: UriTexts<A>,
 }
 
 impl<A: Allocator> Model for SipUri<A> {
@@ -38,9 +41,40 @@ impl<A: Allocator> Model for SipUri<A> {
 
     ghost Value = { Uri };
 
-    ghost view = { λ s. uri_of s.text.items };
+    ghost view = { λ s. uri_of s.texts.0 };
 
-    ghost invariant = { λ s. IsKept s.text.items s.key.items };
+    ghost invariant = { λ s. IsKept s.texts.0 s.texts.1 };
+}
+
+/// What is kept of a text with these parts, in one block of memory.
+#[tactic(auto, using(crate::proofs::TwoTexts::two_texts))]
+fn texts_of<A: Allocator + Clone>(
+    alloc: A,
+    text: &[u8],
+    cut: &UriParts<'_>,
+) -> Result<UriTexts<A>, AllocError>
+    ensures { IfOk result (λ texts. texts ≡ (text.now, parts_key (parts cut.now))) }
+{
+    // The key is never longer than the text.
+    let mut bytes = Vec::with_capacity(alloc.clone()?, text.len().saturating_mul(2))?;
+    bytes.extend_from_slice(text)?;
+    append_key(&alloc, &mut bytes, cut)?;
+    Ok(UriTexts::of(bytes, text.len()))
+}
+
+/// The URI that a text with these parts spells.
+fn uri_with<A: Allocator + Clone>(
+    alloc: A,
+    text: &[u8],
+    cut: &UriParts<'_>,
+) -> Result<SipUri<A>, AllocError>
+    requires read { read_uri text.now ≡ Ok (uri_of text.now) }
+    requires parts { parts cut.now ≡ parts_of (drop 4 text.now) }
+    ensures { IfOk result (λ u. u ≡ uri_of text.now) }
+{
+    Ok(SipUri {
+        texts: texts_of(alloc, text, cut)?,
+    })
 }
 
 fn read_all<A: Allocator + Clone>(alloc: A, text: &[u8]) -> Result<SipUri<A>, UriFault>
@@ -48,10 +82,8 @@ fn read_all<A: Allocator + Clone>(alloc: A, text: &[u8]) -> Result<SipUri<A>, Ur
     ensures refused { IfErr result (λ fault. fault ≡ refusal (read_uri text.now)) }
 {
     let cut = cut_uri(text)?;
-    // The key is never longer than the text.
-    let key = make_key(&alloc, &cut, text.len())?;
-    let text = Vec::from_slice(alloc, text)?;
-    Ok(SipUri { text, key })
+    let uri = uri_with(alloc, text, &cut)?;
+    Ok(uri)
 }
 
 impl<A: Allocator + Clone> SipUri<A> {
@@ -73,21 +105,38 @@ impl<A: Allocator + Clone> SipUri<A> {
         read_all(alloc, text)
     }
 
+    /// The URI that a text spells which is known to spell one: it is not tested again.
+    ///
+    /// # Errors
+    ///
+    /// Only where the allocator refuses.
+    #[tactic(auto, using(crate::proofs::Readable::readable, crate::proofs::Readable::readable_long))]
+    pub fn of_readable(alloc: A, text: &[u8]) -> Result<SipUri<A>, AllocError>
+        requires { IsOk (read_uri text.now) }
+        ensures { IfOk result (λ u. read_uri text.now ≡ Ok u) }
+    {
+        let cut = cut_body(&text[4..]);
+        uri_with(alloc, text, &cut)
+    }
+
     /// What stands before the `@`, as written, if there is one: `userinfo` of RFC 3261 section 25.1
     /// without its `@`. Escapes are not decoded.
+    #[tactic(auto, unfolding(crate::specs::Reading::parts_of))]
     pub fn user(&self) -> Option<&[u8]>
         ensures { option_copied result ≡ self.now.user }
     {
-        cut_body(&self.text[4..]).user
+        user_and_rest(&self.texts.text()[4..]).0
     }
 
     /// The host as written (RFC 3261 section 25.1).
+    #[tactic(auto, unfolding(crate::specs::Reading::parts_of))]
     pub fn host(&self) -> &[u8]
         ensures value { result.now ≡ self.now.host }
         // Each URI that there is keeps the grammar.
         ensures grammar { IsUri self.now }
     {
-        cut_body(&self.text[4..]).host
+        let (_, rest) = user_and_rest(&self.texts.text()[4..]);
+        cut_host(rest).0
     }
 
     /// Each URI that was read keeps the grammar (RFC 3261 section 25.1). A law: it does nothing when it
@@ -95,7 +144,7 @@ impl<A: Allocator + Clone> SipUri<A> {
     pub fn is_uri(&self)
         ensures { IsUri self.now }
     {
-        let _text = &self.text;
+        let _texts = &self.texts;
     }
 
     /// Whether two URIs name the same target (RFC 3261 section 16.5), as their keys say. This is not
@@ -103,7 +152,7 @@ impl<A: Allocator + Clone> SipUri<A> {
     pub fn same_target(&self, other: &SipUri<A>) -> bool
         ensures { IsTrue result ↔ (key_of self.now ≡ key_of other.now) }
     {
-        self.key.as_slice() == other.key.as_slice()
+        self.key() == other.key()
     }
 
     /// Where a request to this URI is sent (RFC 3261 section 16.6, over UDP or TCP and IPv4): the host
@@ -112,7 +161,7 @@ impl<A: Allocator + Clone> SipUri<A> {
     pub fn next_hop(&self) -> Option<Hop>
         ensures { result ≡ hop_of self.now }
     {
-        hop_of(&cut_body(&self.text[4..]))
+        hop_of(&cut_body(&self.texts.text()[4..]))
     }
 
     /// Appends the text without `method` parameters and headers, as it stands in a request (RFC 3261
@@ -129,7 +178,21 @@ impl<A: Allocator + Clone> SipUri<A> {
             → IsOk result }
         ensures capacity { vec_capacity out.old ≤ vec_capacity out.new }
     {
-        append_request_uri(out, &self.text)
+        append_request_uri(out, self.texts.text())
+    }
+
+    /// What is kept of the URI as it stands in a request.
+    #[tactic(auto, using(crate::proofs::TwoTexts::two_texts))]
+    fn requested_texts(&self, alloc: A) -> Result<UriTexts<A>, AllocError>
+        ensures { IfOk result (λ texts. texts ≡ (request_uri self.now, key_of self.now)) }
+    {
+        let key = self.key();
+        let size = self.texts.text().len().saturating_add(key.len());
+        let mut bytes = Vec::with_capacity(alloc, size)?;
+        self.request_uri(&mut bytes)?;
+        let len = bytes.len();
+        bytes.extend_from_slice(key)?;
+        Ok(UriTexts::of(bytes, len))
     }
 
     /// The URI as it stands in a request: without `method` parameters and headers (RFC 3261 section
@@ -141,10 +204,9 @@ impl<A: Allocator + Clone> SipUri<A> {
     pub fn requested(&self, alloc: A) -> Result<SipUri<A>, AllocError>
         ensures { IfOk result (λ made. made ≡ requested self.now) }
     {
-        let mut text = Vec::with_capacity(alloc.clone()?, self.text.len())?;
-        self.request_uri(&mut text)?;
-        let key = Vec::from_slice(alloc, &self.key)?;
-        Ok(SipUri { text, key })
+        Ok(SipUri {
+            texts: self.requested_texts(alloc)?,
+        })
     }
 
     /// The bytes that tell the target of a URI from others (RFC 3261 section 16.5): two URIs with the
@@ -152,7 +214,7 @@ impl<A: Allocator + Clone> SipUri<A> {
     pub fn key(&self) -> &[u8]
         ensures { result.now ≡ key_of self.now }
     {
-        &self.key
+        self.texts.key()
     }
 
     /// Appends the key of the URI.
@@ -178,7 +240,7 @@ impl<A: Allocator + Clone> SipUri<A> {
     pub fn key_params_ascend(&self)
         ensures { IsStrictlySortedBy (slice_cmp nat_cmp) (key_params self.now.params) }
     {
-        let _key = &self.key;
+        let _texts = &self.texts;
     }
 
     /// The parameters of a key are those that count: a test that passes at one of these passes at one
@@ -187,6 +249,6 @@ impl<A: Allocator + Clone> SipUri<A> {
         ensures { (p : List ℕ → Bool)
             → list_any p (key_params self.now.params) ≡ list_any p (counted self.now.params) }
     {
-        let _key = &self.key;
+        let _texts = &self.texts;
     }
 }

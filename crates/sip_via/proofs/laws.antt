@@ -1,3 +1,4 @@
+pub mod Digits
 pub mod HexLaws
 pub mod Marked
 pub mod MarkedMessage

@@ -1,11 +1,11 @@
 //! Numbers and IPv4 addresses as text.
 
-ghost use Rattle.std.specs.Prelude.{◌≡◌, ◌++◌, ◌∷◌, IfSome, OnOk};
+ghost use Rattle.std.specs.Prelude.{◌≡◌, ◌+◌, ◌<◌, ◌++◌, [], ◌∷◌, IfSome, OnOk};
 ghost use Rattle.std.specs.Fmt.{decimal};
 ghost use Rattle.std.specs.Option.{option_copied};
 ghost use Rattle.std.specs.Str.{bytes_eq};
 ghost use Rattle.sip_via.specs.Address.{address_text, dotted};
-ghost use Rattle.sip_via.specs.inner.Fronts.{behind_address, behind_marked, behind_number, is_end};
+ghost use Rattle.sip_via.specs.inner.Fronts.{behind_address, behind_marked, behind_number, behind_text, is_end};
 
 use itoa::Buffer;
 use sip_lex::Growing;
@@ -36,10 +36,73 @@ pub(crate) fn add_address<T: Growing>(out: &mut T, addr: [u8; 4]) -> Result<(), 
     add_dotted(out, addr[3])
 }
 
-/// What stands behind a number in decimal.
+/// What stands behind a digit.
+#[inline(always)]
+fn behind_one(text: &[u8], a: u8) -> Option<&[u8]>
+    ensures { option_copied result ≡ behind_text (a ∷ []) text.now }
+{
+    match text {
+        [first, rest @ ..] if *first == a => Some(rest),
+        _ => None,
+    }
+}
+
+/// What stands behind two digits.
+#[inline(always)]
+fn behind_two(text: &[u8], a: u8, b: u8) -> Option<&[u8]>
+    ensures { option_copied result ≡ behind_text (a ∷ b ∷ []) text.now }
+{
+    match text {
+        [first, second, rest @ ..] if *first == a && *second == b => Some(rest),
+        _ => None,
+    }
+}
+
+/// What stands behind three digits.
+#[inline(always)]
+fn behind_three(text: &[u8], a: u8, b: u8, c: u8) -> Option<&[u8]>
+    ensures { option_copied result ≡ behind_text (a ∷ b ∷ c ∷ []) text.now }
+{
+    match text {
+        [first, second, third, rest @ ..] if *first == a && *second == b && *third == c => {
+            Some(rest)
+        }
+        _ => None,
+    }
+}
+
+/// The digit of a number below ten.
+fn digit_of(n: u16) -> u8
+    requires { n < 10 }
+    ensures { result ≡ 48 + n }
+{
+    b'0' + n as u8
+}
+
+/// What stands behind a number of three digits at most, in decimal.
+#[inline(always)]
+fn behind_short_number(text: &[u8], n: u16) -> Option<&[u8]>
+    requires { n < 1000 }
+    ensures { option_copied result ≡ behind_number n text.now }
+{
+    if n < 10 {
+        return behind_one(text, digit_of(n));
+    }
+    let tens = n / 10;
+    let last = digit_of(n % 10);
+    if n < 100 {
+        return behind_two(text, digit_of(tens), last);
+    }
+    behind_three(text, digit_of(tens / 10), digit_of(tens % 10), last)
+}
+
+/// What stands behind a number in decimal. The numbers of an address are short.
 fn behind_number(text: &[u8], n: u16) -> Option<&[u8]>
     ensures { option_copied result ≡ behind_number n text.now }
 {
+    if n < 1000 {
+        return behind_short_number(text, n);
+    }
     text.strip_prefix(Buffer::new().format(n).as_bytes())
 }
 

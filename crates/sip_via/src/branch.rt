@@ -11,7 +11,7 @@ ghost use Rattle.sip_via.specs.BranchText.{IsBranch, branch_text};
 ghost use Rattle.sip_lex.specs.HexPair.{hex_text};
 
 use itoa::write_digits;
-use sip_lex::{cut_at, hex_pair, read_pair, read_plain_number};
+use sip_lex::{cut_near, hex_pair, read_pair, read_plain_number};
 use std::alloc::{AllocError, Allocator};
 
 /// What a branch parameter of the proxy's own says: which target of which context was tried, by
@@ -152,8 +152,8 @@ struct SplitBranch<'a> {
 fn split_numbers<'a>(key: &'a [u8], numbers: &'a [u8]) -> Option<SplitBranch<'a>>
     ensures { seen_parts result ≡ with_instance key.now (cut (is 46) numbers.now) }
 {
-    let (instance, rest) = cut_at(numbers, b'.');
-    let (context, rest) = cut_at(rest?, b'.');
+    let (instance, rest) = cut_near(numbers, b'.');
+    let (context, rest) = cut_near(rest?, b'.');
     let target = rest?;
     Some(SplitBranch {
         key,

@@ -164,7 +164,8 @@ pub struct ReceivedFault<A: Allocator> {
     pub fault: ViaFault,
 }
 
-/// The message with another value in its first Via line, which is put where the old one stands.
+/// The message with another value in its first Via line, which is put where the old one stands. Few values are put into a message
+/// behind that, and the request that opens a call is kept: so it gives back the memory in which nothing stands.
 fn with_via_line<A: Allocator>(
     mut message: Message<A>,
     line: &[u8],
@@ -179,7 +180,10 @@ fn with_via_line<A: Allocator>(
         return Ok(message);
     }
     match message.set_value(place, line) {
-        Ok(()) => Ok(message),
+        Ok(()) => {
+            message.shrink();
+            Ok(message)
+        }
         Err(_) => Err(ReceivedFault {
             message,
             fault: ViaFault::NoMemory,

@@ -14,3 +14,9 @@ abbrev pub Starts : Table → Table → List ℕ → Type 0
 Starts old new numbers =
     (((numbers ≡ []) × (new ≡ old) × ((k : ℕ) (row : Row) → slice_get old.rows k ≡ Some row → may_start old.rows row ≡ false)))
     ⊎ ((first : ℕ) × (count : ℕ) × (numbers ≡ numbers_from first count) × IsReady old.rows first count × (new ≡ record old { rows = tried old.rows first count }))
+
+-- the numbers of the rows that were started so stand behind those of before
+pub record AddsStarted (old new : Table) (before after : List ℕ) : Type 0 where
+  pub started : List ℕ
+  pub joins : after ≡ before ++ started
+  pub starts : Starts old new started

@@ -17,11 +17,9 @@ pub record IsStepped (t : Table) (event : Event) (at : ℕ) (after : Table) (beg
   pub started : begun ≡ became is_trying t.rows after.rows
   pub cancelled : ended ≡ became is_cancelled t.rows after.rows
 
--- lists with no number yet, and with room for those of all rows
+-- no number yet, and room for those of all rows, and for one that is cancelled beside
 abbrev pub HasRoom : {A : Type 0} → Numbers A → List Row → Type 0
-HasRoom numbers rows =
-    (numbers.started.items ≡ []) × (numbers.cancelled.items ≡ [])
-    × (length rows ≤ vec_capacity numbers.started) × (length numbers.cancelled.items + length rows ≤ vec_capacity numbers.cancelled)
+HasRoom numbers rows = (numbers.rows.items ≡ []) × (numbers.cancelled ≡ 0) × (length rows + 1 ≤ vec_capacity numbers.rows)
 
 abbrev pub number_if : Bool → ℕ → List ℕ
 number_if b n = if b then n ∷ [] else []

@@ -3,7 +3,8 @@ use crate::bytes::is;
 use crate::context::happening::{key_of, offer, targets};
 use crate::holds::holds;
 use context_values::{
-    NewTarget, Offer, RowExtras, contact_qs, extras_at, qs_at, target_extras, target_qs,
+    NewTarget, Offer, RowExtras, contact_qs, extras_at, numbered, qs_at, qs_in_order, target_extras,
+    target_qs,
 };
 use fork_context::Target;
 use std::alloc::Global;
@@ -23,7 +24,11 @@ fn are(extras: &[RowExtras], wanted: &[(u16, usize)]) -> bool {
 /// Whether the q of three targets is told in their order, and then in that in which they are tried.
 fn tells_qs(alloc: Global, targets: &[Target]) -> bool {
     match target_qs(&alloc, targets) {
-        Ok(qs) => qs.as_slice() == [500, 1000, 400].as_slice() && orders(alloc, &qs),
+        Ok(qs) => {
+            qs.as_slice() == [500, 1000, 400].as_slice()
+                && orders(alloc, &qs)
+                && orders_all(alloc, qs)
+        }
         Err(_) => false,
     }
 }
@@ -32,6 +37,17 @@ fn tells_qs(alloc: Global, targets: &[Target]) -> bool {
 fn orders(alloc: Global, qs: &[u16]) -> bool {
     match qs_at(&alloc, qs, &ORDER) {
         Ok(ordered) => ordered.as_slice() == [1000, 500, 400].as_slice(),
+        Err(_) => false,
+    }
+}
+
+/// Whether each of these is told in the order in which they are tried.
+fn orders_all(alloc: Global, qs: Vec<u16>) -> bool {
+    match numbered(&alloc, &qs) {
+        Ok(order) => match qs_in_order(&alloc, qs, &order) {
+            Ok(ordered) => ordered.as_slice() == [1000, 500, 400].as_slice(),
+            Err(_) => false,
+        },
         Err(_) => false,
     }
 }

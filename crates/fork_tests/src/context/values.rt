@@ -249,12 +249,13 @@ fn extras_are_found_by_number_and_by_key(rt: HostRuntime) {
     }
 }
 
-/// A reply that names one row of each kind, in the room that was made for two of each.
+/// A reply that names one row of each kind, in the room that was made for two.
 fn reply(alloc: Global) -> Option<Reply> {
     match Numbers::with_room(&alloc, 2) {
         Ok(mut numbers) => {
-            numbers.started.push_reserved(4);
-            numbers.cancelled.push_reserved(7);
+            numbers.rows.push_reserved(7);
+            numbers.cancelled = 1;
+            numbers.rows.push_reserved(4);
             Some(Reply::new(9, numbers, Up::Success(3)))
         }
         Err(_) => None,

@@ -78,6 +78,14 @@ fn are_cut(rt: &impl Abort, headers: HeaderLines<'_>) {
         "the line before it",
     );
     holds(rt, front.get(2).is_none(), "no line behind it in front");
+    holds(
+        rt,
+        has(
+            front.as_written(),
+            b"v: SIP/2.0/UDP 192.0.2.1:5060;branch=z9hG4bKa;rport\r\nMax-Forwards: 70\r\n",
+        ),
+        "they stand in the message as they are written",
+    );
 }
 
 /// Ends the test where these are not the lines of the request with a body.

@@ -57,9 +57,21 @@ fn has_key(alloc: Global, text: &[u8], wanted: &[u8]) -> bool {
     }
 }
 
+/// Whether a text that is a URI is read without its tests as the same one.
+fn is_read_again(alloc: Global, text: &[u8]) -> bool {
+    match SipUri::read(alloc, text) {
+        Ok(uri) => match SipUri::of_readable(alloc, text) {
+            Ok(again) => again.same_target(&uri),
+            Err(_) => false,
+        },
+        Err(_) => false,
+    }
+}
+
 #[test]
 fn reads_a_whole_uri(rt: HostRuntime) {
     let alloc = rt.alloc();
+    holds(&rt, is_read_again(alloc, WHOLE), "the same one again");
     holds(&rt, has_user(alloc, WHOLE, b"bob"), "the user");
     holds(&rt, has_host(alloc, WHOLE, b"192.0.2.4"), "the host");
     let request = writes(alloc, WHOLE, b"> sip:bob@192.0.2.4:5062;transport=udp");

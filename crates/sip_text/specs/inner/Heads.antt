@@ -1,5 +1,7 @@
 -- Where the code that reads header lines stands in what reading gives.
-use Rattle.std.specs.Prelude.{ℕ, List, [], ◌∷◌, ◌++◌, Option, Some, None, Result, Ok, Err}
+use Rattle.std.specs.Prelude.{◌≡◌, ℕ, true, List, [], ◌∷◌, ◌++◌, Option, Some, None, Result, Ok, Err}
+use Rattle.sip_lex.specs.Bytes.{is_token, trim_end}
+use Rattle.sip_lex.specs.Cut.{cut, is}
 use Rattle.sip_text.specs.Reading.{Fault, BadHeader, Headers, Tail, header_of, joined}
 use Rattle.sip_text.specs.Text.{HeaderText}
 
@@ -41,3 +43,11 @@ front_header line (Some t) = put_if_any (header_of line t.parts) t
 abbrev pub prepended : List HeaderText → Option Headers → Option Headers
 prepended hs None = None
 prepended hs (Some x) = Some (hs ++ x.0, x.1)
+
+-- what stands before the first colon of a line is this name with the space behind it, and what stands behind the colon is the rest
+pub record IsNamed (line name rest : List ℕ) : Type 0 where
+  pub front : List ℕ
+  pub cuts : cut (is 58) line ≡ (front, Some rest)
+  pub whole : line ≡ front ++ 58 ∷ rest
+  pub trimmed : name ≡ trim_end front
+  pub token : is_token (trim_end front) ≡ true

@@ -1,6 +1,5 @@
 -- A message by the text that it lies in.
 use Rattle.std.specs.Prelude.{◌≡◌, ℕ, ◌+◌, ◌≤◌, List, ◌++◌, drop, length, take}
-use Rattle.std.specs.List.{AllByRecursion}
 use Rattle.sip_text.specs.declared.place.LinePlaces.{LinePlaces}
 use Rattle.sip_text.specs.declared.place.PartPlace.{PartPlace}
 use Rattle.sip_text.specs.declared.place.StartPlaces.{StartPlaces}
@@ -8,6 +7,7 @@ use Rattle.sip_text.specs.declared.place.StartPlaces.TheVariants.{Request, Respo
 use Rattle.sip_text.specs.Message.{IsMessage}
 use Rattle.sip_text.specs.Seen.{headers_in, part_at, start_in}
 use Rattle.sip_text.specs.Text.{MessageText}
+pub use Rattle.sip_text.specs.inner.Within.{AreLinesWithin, IsLineWithin, IsWithin}
 
 -- the text ends so
 abbrev pub IsEnd : List ℕ → List ℕ → Type 0
@@ -16,16 +16,6 @@ IsEnd text end = (front : List ℕ) × (text ≡ front ++ end)
 -- the part stands in the text from a place on
 abbrev pub IsAt : List ℕ → ℕ → List ℕ → Type 0
 IsAt text at part = take (length part) (drop at text) ≡ part
-
--- a place lies within so many bytes
-abbrev pub IsWithin : ℕ → PartPlace → Type 0
-IsWithin room place = place.start + place.len ≤ room
-
-abbrev pub IsLineWithin : ℕ → LinePlaces → Type 0
-IsLineWithin room line = IsWithin room line.name × IsWithin room line.value
-
-abbrev pub AreLinesWithin : ℕ → List LinePlaces → Type 0
-AreLinesWithin room lines = AllByRecursion (IsLineWithin room) lines
 
 abbrev pub IsStartWithin : ℕ → StartPlaces → Type 0
 IsStartWithin room (Request method uri) = IsWithin room method × IsWithin room uri

@@ -21,7 +21,7 @@ returns-clause-none g c =
     let call = c.args.state.now in
     let m = c.args.response.now in
     let second = ap (λ (b : Bool). is_to_method (method_of call.opened.request.start) (message_cseq m.headers) && b && is_sent call c.in_ok-n.n)
-    (sym c.top_and_second-second.ensures.second) in
+    (sym c.has_second_via-second.ensures) in
     none_at_all call m c.requires.response
     (no_transaction call m c.in_ok-n.n
     (at_home call m c.opened.result.now c.branch-call.result c.args.branch (Some c.in_ok-n.n) c.opened.ensures c.branch-call.ensures c.are_branches.ensures

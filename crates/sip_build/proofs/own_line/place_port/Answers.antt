@@ -1,5 +1,5 @@
 use Rattle.sip_build.proofs.Common.{arith, sym}
-use Rattle.sip_build.proofs.Digits.{four-digits}
+use Rattle.sip_via.proofs.laws.Digits.{four-digits}
 use Rattle.sip_build.proofs.Placed.{placed-as, placed-then}
 use Rattle.sip_build.proofs.own_line.place_port.Goals as goal
 

@@ -1,5 +1,5 @@
 use Rattle.sip_build.proofs.Common.{arith, sym, decimal_digit}
-use Rattle.sip_build.proofs.Digits.{three-digits, two-digits}
+use Rattle.sip_via.proofs.laws.Digits.{three-digits, two-digits}
 use Rattle.sip_build.proofs.Placed.{placed-as, placed-then}
 use Rattle.sip_build.proofs.own_line.place_small.Goals as goal
 

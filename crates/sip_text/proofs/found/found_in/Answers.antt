@@ -1,5 +1,6 @@
-use Rattle.sip_text.proofs.Common.{List, HeaderText, subst, sym}
+use Rattle.sip_text.proofs.Common.{List, HeaderText, length, subst, sym}
 use Rattle.sip_text.specs.inner.Found.{Finds}
+use Rattle.sip_text.proofs.LinesWithin.{within_at}
 use Rattle.sip_text.proofs.NeededFields.{headers_more}
 use Rattle.sip_text.proofs.found.found_in.Goals as goal
 
@@ -11,3 +12,6 @@ loop-line-preserved c =
 
 pub loop-line-init : goal.loop-line-init
 loop-line-init c = c.none-found.ensures c.args.text.now
+
+pub add-found-requires : goal.add-found-requires
+add-found-requires c = within_at (length c.args.text.now) c.args.lines.now c.loop-line.line-index (record { name = record { start = 0; len = 0 }; value = record { start = 0; len = 0 } }) c.requires c.loop-line-test.true

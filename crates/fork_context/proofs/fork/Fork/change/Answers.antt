@@ -1,4 +1,6 @@
 use Rattle.fork_context.proofs.Common.{◌∙◌, Some, ap, subst, event_of, changed, MayChange, common_steps, arith}
+use Rattle.std.proofs.Common.{drop, take, length, take_all}
+use Rattle.std.proofs.lemmas.List.{drop_all}
 use Rattle.fork_context.proofs.StepLaws.{stray_step, cancel_step, still_there, row_step}
 use Rattle.fork_context.proofs.fork.Fork.change.Goals as goal
 
@@ -9,8 +11,9 @@ pub returns-in_ok-numbers-in-Closes-clause-ok : goal.returns-in_ok-numbers-in-Cl
 returns-in_ok-numbers-in-Closes-clause-ok g c =
     let t = c.args.self.now in
     let changes = c.in-Some.ensures.change c.args.at ∙ ap (λ x. Some (changed t c.args.at x)) c.in-Closes.is in
-    cancel_step t (event_of c.args.event.now) c.args.at c.shut.new.self c.in_ok-numbers-in-Closes.numbers.started.items c.shut.new.cancelled.items c.requires.series changes
-    c.shut.ensures.rows c.in_ok-numbers-in-Closes.ensures.none.0 c.shut.ensures.numbers
+    let shut = c.shut.new.cancelled.items in
+    cancel_step t (event_of c.args.event.now) c.args.at c.shut.new.self (drop (length shut) shut) (take (length shut) shut) c.requires.series changes
+    c.shut.ensures.rows (drop_all (length shut) shut (omega arith)) (take_all (length shut) shut (omega arith) ∙ c.shut.ensures.numbers)
 
 pub settle-requires-clause-there : goal.settle-requires-clause-there
 settle-requires-clause-there g c = grind (arith, common_steps, still_there)
@@ -19,6 +22,6 @@ pub returns-in_ok-numbers-in-Row-clause-ok : goal.returns-in_ok-numbers-in-Row-c
 returns-in_ok-numbers-in-Row-clause-ok g c =
     let t = c.args.self.now in
     let changes = c.in-Some.ensures.change c.args.at ∙ ap (λ x. Some (changed t c.args.at x)) c.in-Row.is in
-    row_step t (event_of c.args.event.now) c.args.at c.in-Row.row c.in-Row.effect c.apply.new.self c.settle.new.self c.settle.new.started.items c.settle.new.cancelled.items
+    row_step t (event_of c.args.event.now) c.args.at c.in-Row.row c.in-Row.effect c.apply.new.self c.settle.new.self (drop c.settle.new.numbers.cancelled c.settle.new.numbers.rows.items) (take c.settle.new.numbers.cancelled c.settle.new.numbers.rows.items)
     c.closed-was_closed.result c.cancels-cancels.result c.requires.series c.requires.whole changes (subst (MayChange t) c.in-Row.is c.in-Some.ensures.may)
     c.in_ok-numbers-in-Row.ensures.ok c.closed-was_closed.ensures c.cancels-cancels.ensures c.settle.ensures

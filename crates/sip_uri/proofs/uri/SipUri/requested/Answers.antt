@@ -1,20 +1,18 @@
-use Rattle.sip_uri.proofs.Common.{◌≡◌, ◌++◌, ◌∙◌, List, ℕ, ap, subst, sym, IsKept, uri_of, request_uri, requested}
+use Rattle.sip_uri.proofs.Common.{◌≡◌, ◌∙◌, List, ℕ, ap, subst, sym, IsKept, Uri, uri_of, request_uri, requested}
+use Rattle.sip_uri.specs.Key.{key_of}
 use Rattle.sip_uri.proofs.Requested.{requested_is_kept, requested_view}
 use Rattle.sip_uri.proofs.uri.SipUri.requested.Goals as goal
 
 pub invariant_of-result : goal.invariant_of-result
 invariant_of-result g c =
-    let text = c.self.inside.text.items in
-    let key = c.self.inside.key.items in
-    let made : c.request_uri.new.out.items ≡ request_uri (uri_of text) =
-    c.in_ok-request_uri.ensures.ok ∙ ap (λ (t : List ℕ). t ++ request_uri c.args.self.now) c.in_ok-text.ensures.items ∙ ap request_uri (sym c.self.view_is) in
-    let same_key : c.in_ok-key.key.items ≡ key = c.in_ok-key.ensures.items ∙ c.deref.ensures.value in
-    let kept = requested_is_kept text key c.self.invariant in
-    subst (λ (t : List ℕ). IsKept t c.in_ok-key.key.items) (sym made) (subst (λ (k : List ℕ). IsKept (request_uri (uri_of text)) k) (sym same_key) kept)
+    let text = c.self.inside.texts.0 in
+    let kept = requested_is_kept text c.self.inside.texts.1 c.self.invariant in
+    let keyed = subst (λ (k : List ℕ). IsKept (request_uri (uri_of text)) k) c.self.invariant.keyed kept in
+    let good = subst (λ (u : Uri). IsKept (request_uri u) (key_of u)) c.self.view_is keyed in
+    subst (λ (t : List ℕ × List ℕ). IsKept t.0 t.1) (sym c.in_ok-requested_texts.ensures) good
 
 pub returns : goal.returns
 returns g c =
-    let text = c.self.inside.text.items in
-    let made : c.request_uri.new.out.items ≡ request_uri (uri_of text) =
-    c.in_ok-request_uri.ensures.ok ∙ ap (λ (t : List ℕ). t ++ request_uri c.args.self.now) c.in_ok-text.ensures.items ∙ ap request_uri (sym c.self.view_is) in
-    ap uri_of made ∙ requested_view text c.self.inside.key.items c.self.invariant ∙ ap requested c.self.view_is
+    let text = c.self.inside.texts.0 in
+    ap (λ (t : List ℕ × List ℕ). uri_of t.0) c.in_ok-requested_texts.ensures
+    ∙ subst (λ (u : Uri). uri_of (request_uri u) ≡ requested u) c.self.view_is (requested_view text c.self.inside.texts.1 c.self.invariant)
