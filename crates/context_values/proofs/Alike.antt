@@ -51,12 +51,19 @@ in_group-append group (x ∷ xs) ys = ap (λ rest. (group, x) ∷ rest) (in_grou
 pub one_more : (k : ℕ) → in_group 0 (numbers_below (suc k)) ≡ in_group 0 (numbers_below k) ++ (0, k) ∷ []
 one_more k = in_group-append 0 (numbers_below k) (k ∷ [])
 
+take_more : (qs : List ℕ) (k : ℕ) → k < length qs → take k qs ++ q_at qs k ∷ [] ≡ take (suc k) qs
+take_more [] k lt = absurd (omega arith)
+take_more (q ∷ qs) zero lt = grind (arith, common_steps)
+take_more (q ∷ qs) (suc k) lt = grind (arith, common_steps, take_more qs k (omega arith))
+
 -- the q of each place, in the order of the places
 each_q : (qs : List ℕ) (k : ℕ) → k ≤ length qs → map (q_of_pair qs) (in_group 0 (numbers_below k)) ≡ take k qs
 each_q qs zero few = refl
 each_q qs (suc k) few =
-    let before = each_q qs k (omega arith) in
-    ap (map (q_of_pair qs)) (one_more k) ∙ grind (arith, common_steps, map-append)
+    ap (map (q_of_pair qs)) (one_more k)
+    ∙ map-append (q_of_pair qs) (in_group 0 (numbers_below k)) ((0, k) ∷ [])
+    ∙ ap (λ (t : List ℕ). t ++ q_at qs k ∷ []) (each_q qs k (omega arith))
+    ∙ take_more qs k (omega arith)
 
 pub in_place : (qs : List ℕ) → numbered qs ≡ in_group 0 (numbers_below (length qs)) → map (q_of_pair qs) (numbered qs) ≡ qs
 in_place qs alike = ap (map (q_of_pair qs)) alike ∙ each_q qs (length qs) (omega arith) ∙ take_all (length qs) qs (omega arith)
