@@ -46,7 +46,7 @@ pub struct ThreadClock {
 }
 
 impl ThreadClock {
-    /// A watch that was not read yet: the last time that it showed is 0.
+    /// A clock that was not read yet: the last time that it showed is 0.
     pub fn new(epoch: Epoch) -> ThreadClock
         ensures { result.last ≡ 0 }
     {

@@ -118,6 +118,7 @@ pub fn append_head<A: Allocator>(
     append_depth(text, rules)
 }
 
+/// Appends the lines of the targets, one after another.
 pub fn append_targets<A: Allocator>(
     text: &mut Vec<u8, A>,
     targets: &[ListedTarget],
@@ -130,6 +131,7 @@ pub fn append_targets<A: Allocator>(
     Ok(())
 }
 
+/// Appends the lines of the stored answers, one after another.
 pub fn append_ranks<A: Allocator>(text: &mut Vec<u8, A>, ranks: &[Ranked]) -> Result<(), AllocError>
     ensures { OnOk result (text.new.items ≡ text.old.items ++ ranks_text ranks.now) }
 {

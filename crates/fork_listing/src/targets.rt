@@ -38,6 +38,7 @@ fn is_redirection(end: End) -> bool
     }
 }
 
+/// The target of this number, if the listing has that many: a target has as its number its place in the list.
 pub fn target_at(targets: &[ListedTarget], n: u16) -> Option<ListedTarget>
     ensures { result ≡ slice_get targets.now n }
 {
