@@ -4,4 +4,5 @@ pub mod Numbers
 pub mod Places
 pub mod Size
 pub mod Tags
+pub mod TokenFront
 pub mod laws

@@ -1,15 +1,14 @@
 //! Tokens that stand before a mark.
 
-ghost use Rattle.std.specs.Prelude.{◌≡◌, ◌≤◌, ◌++◌, ◌∷◌, length, take, true, IfSome};
-ghost use Rattle.std.specs.List.{list_all};
+ghost use Rattle.std.specs.Prelude.{◌≡◌, ◌≢◌, ◌++◌, ◌∷◌, ℕ, List, true, false, IfSome, IfNone};
+ghost use Rattle.std.specs.List.{prefix_len};
 ghost use Rattle.sip_lex.specs.Bytes.{is_token, is_token_byte};
 
 use crate::bytes::is_token_byte;
 
 /// How many bytes that may stand in a token a text begins with.
 fn token_len(text: &[u8]) -> usize
-    ensures token { list_all is_token_byte (take result text.now) ≡ true }
-    ensures within { result ≤ length text.now }
+    ensures { result ≡ prefix_len is_token_byte text.now }
 {
     for (i, byte) in text.iter().enumerate() {
         if !is_token_byte(*byte) {
@@ -19,11 +18,15 @@ fn token_len(text: &[u8]) -> usize
     text.len()
 }
 
-/// The token at the front of a text that `mark` stands right behind, and what stands behind the mark (RFC 3261 section 25.1). It is
-/// found in one walk.
+/// The token at the front of a text that `mark` stands right behind, and what stands behind the mark
+/// (RFC 3261 section 25.1). It is found in one walk.
 pub fn cut_token(text: &[u8], mark: u8) -> Option<(&[u8], &[u8])>
     ensures token { IfSome result (λ p. is_token p.0.now ≡ true) }
     ensures whole { IfSome result (λ p. text.now ≡ p.0.now ++ mark ∷ p.1.now) }
+    ensures none { IfNone result ((token behind : List ℕ)
+        → is_token token ≡ true
+        → is_token_byte mark ≡ false
+        → text.now ≢ token ++ mark ∷ behind) }
 {
     let (token, rest) = text.split_at(token_len(text));
     match rest {

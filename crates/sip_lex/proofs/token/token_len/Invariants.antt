@@ -1,5 +1,7 @@
-use Rattle.sip_lex.proofs.Common.{◌≡◌, true, take, list_all, is_token_byte}
+use Rattle.sip_lex.proofs.Common.{◌≡◌, ◌+◌, drop}
+use Rattle.std.specs.List.{prefix_len}
+use Rattle.sip_lex.specs.Bytes.{is_token_byte}
 use Rattle.sip_lex.proofs.token.token_len.Given as goal
 
 abbrev pub invariant-loop-i : goal.invariant-loop-i
-invariant-loop-i l = list_all is_token_byte (take l.i l.text) ≡ true
+invariant-loop-i l = prefix_len is_token_byte l.text ≡ l.i + prefix_len is_token_byte (drop l.i l.text)
