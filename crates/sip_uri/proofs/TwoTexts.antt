@@ -1,6 +1,6 @@
 -- Two texts that stand one behind the other.
 use Rattle.sip_uri.proofs.Common.{◌≡◌, ℕ, List, ◌++◌, length, take, drop, sym, ap, ◌∙◌}
-use Rattle.std.proofs.Common.{take_at, drop_at, arith}
+use Rattle.std.proofs.Common.{take_at, drop_at}
 
 pub two_texts : (a b all : List ℕ) (n : ℕ) (both : List ℕ × List ℕ) → n ≡ length a → all ≡ a ++ b → both ≡ (take n all, drop n all) → both ≡ (a, b)
 two_texts a b all n both len joins is =

@@ -44,4 +44,9 @@ impl<A: Allocator> UriTexts<A> {
     {
         &self.bytes[self.len..]
     }
+
+    /// How many bytes the text and the key have together.
+    pub(crate) fn size(&self) -> usize {
+        self.bytes.len()
+    }
 }

@@ -181,17 +181,15 @@ impl<A: Allocator + Clone> SipUri<A> {
         append_request_uri(out, self.texts.text())
     }
 
-    /// What is kept of the URI as it stands in a request.
+    /// What is kept of the URI as it stands in a request, in room for `size` bytes.
     #[tactic(auto, using(crate::proofs::TwoTexts::two_texts))]
-    fn requested_texts(&self, alloc: A) -> Result<UriTexts<A>, AllocError>
+    fn requested_texts(&self, alloc: A, size: usize) -> Result<UriTexts<A>, AllocError>
         ensures { IfOk result (λ texts. texts ≡ (request_uri self.now, key_of self.now)) }
     {
-        let key = self.key();
-        let size = self.texts.text().len().saturating_add(key.len());
         let mut bytes = Vec::with_capacity(alloc, size)?;
         self.request_uri(&mut bytes)?;
         let len = bytes.len();
-        bytes.extend_from_slice(key)?;
+        bytes.extend_from_slice(self.key())?;
         Ok(UriTexts::of(bytes, len))
     }
 
@@ -204,9 +202,8 @@ impl<A: Allocator + Clone> SipUri<A> {
     pub fn requested(&self, alloc: A) -> Result<SipUri<A>, AllocError>
         ensures { IfOk result (λ made. made ≡ requested self.now) }
     {
-        Ok(SipUri {
-            texts: self.requested_texts(alloc)?,
-        })
+        let texts = self.requested_texts(alloc, self.texts.size())?;
+        Ok(SipUri { texts })
     }
 
     /// The bytes that tell the target of a URI from others (RFC 3261 section 16.5): two URIs with the
