@@ -5,6 +5,9 @@ use Rattle.std.proofs.lemmas.List.{map-append}
 use Rattle.sip_uri.specs.declared.contact.Contact.{Contact}
 use Rattle.sip_uri.specs.SeenContact.{view_contact}
 use Rattle.sip_uri.specs.Contact.{is_q, value_of}
+use Rattle.sip_uri.proofs.Keys.{size}
+use Rattle.std.specs.Option.{option_map}
+use Rattle.std.proofs.Common.{None, IfSome, subst, suc, ◌<◌, ◌≤◌}
 
 abbrev Cut : Type 0
 Cut = List ℕ × Option (List ℕ)
@@ -47,3 +50,13 @@ module _ {A : Type 0} where
       ∙ ap (λ (v : ContactText). view_contacts done ++ (v ∷ rest)) (is ∙ ap contact_of t)
       ∙ sym (ap (λ (items : List (List ℕ)). view_contacts done ++ map contact_of items) (items_cut text item after e))
       ∙ h
+
+-- ---- what stands behind an item is shorter
+
+module _ {X : Type 0} (v : X → List ℕ) where
+  behind_shorter : (after : Option X) (text : X) → IfSome after (λ a. length (v a) < length (v text)) → suc (size (option_map v after)) ≤ size (Some (v text))
+  behind_shorter None text h = omega arith
+  behind_shorter (Some a) text h = omega arith
+
+  pub rest_shorter : (rest after : Option X) (text : X) → rest ≡ Some text → IfSome after (λ a. length (v a) < length (v text)) → suc (size (option_map v after)) ≤ size (option_map v rest)
+  rest_shorter rest after text e h = subst (λ (r : Option X). suc (size (option_map v after)) ≤ size (option_map v r)) (sym e) (behind_shorter after text h)

@@ -1,4 +1,4 @@
-use Rattle.sip_uri.proofs.Common.{◌∙◌, List, ℕ, sym, ap, subst, IsKept, parts_key, parts}
+use Rattle.sip_uri.proofs.Common.{List, ℕ, sym, ap, subst, IsKept, parts_key, parts}
 use Rattle.sip_uri.proofs.Checked.{kept_read}
 use Rattle.sip_uri.proofs.uri.uri_with.Goals as goal
 
