@@ -1,5 +1,5 @@
 -- Some of the places that lie within a text do so, too.
-use Rattle.std.proofs.Common.{◌≡◌, ℕ, zero, suc, ◌<◌, List, [], ◌∷◌, length, get_or, take, drop, Some, None, slice_get, arith}
+use Rattle.std.proofs.Common.{◌≡◌, ℕ, zero, suc, ◌<◌, List, [], ◌∷◌, length, get_or, take, drop, Some, slice_get, arith}
 use Rattle.sip_text.specs.declared.place.LinePlaces.{LinePlaces}
 use Rattle.sip_text.specs.inner.Within.{AreLinesWithin, IsLineWithin}
 

@@ -1,11 +1,11 @@
 -- Header lines that stand in a text as they are written.
-use Rattle.std.proofs.Common.{◌≡◌, ℕ, suc, ◌+◌, ◌-◌, ◌<◌, ◌≤◌, List, [], ◌∷◌, ◌++◌, length, get_or, take, drop, slice_range, refl, sym, ap, ◌∙◌, arith, append_assoc, take-add, drop-drop, drop-cons}
+use Rattle.std.proofs.Common.{◌≡◌, ℕ, suc, ◌+◌, ◌-◌, ◌≤◌, List, [], ◌∷◌, ◌++◌, length, get_or, take, drop, slice_range, sym, ap, ◌∙◌, arith, append_assoc, take-add, drop-drop, drop-cons}
 use Rattle.std.specs.List.{flat_map}
 use Rattle.std.proofs.Common.{subst, take_all}
 use Rattle.sip_text.specs.inner.Within.{AreLinesWithin}
 use Rattle.sip_text.specs.declared.place.LinePlaces.{LinePlaces}
 use Rattle.sip_text.specs.inner.Written.{IsWritten}
-use Rattle.sip_text.specs.Seen.{header_in, headers_in}
+use Rattle.sip_text.specs.Seen.{headers_in}
 use Rattle.sip_text.specs.Text.{header_text}
 
 two_at : (text : List ℕ) (at a b : ℕ) → at + 2 ≤ length text → get_or text at 0 ≡ a → get_or text (at + 1) 0 ≡ b → drop at text ≡ a ∷ b ∷ drop (at + 2) text
@@ -30,9 +30,9 @@ line_at : (text : List ℕ) (at n v : ℕ) → at + n + 2 + v + 2 ≤ length tex
 line_at text at n v fits colon space cr lf =
     let rest = drop (at + n + 2) text in
     let end : take (v + 2) rest ≡ take v rest ++ 13 ∷ 10 ∷ [] =
-      take-add v 2 rest
-      ∙ ap (λ (l : List ℕ). take v rest ++ take 2 l) (drop-drop v (at + n + 2) text)
-      ∙ ap (λ (l : List ℕ). take v rest ++ l) (take_two text (at + n + 2 + v) 13 10 0 (omega arith) cr lf) in
+    take-add v 2 rest
+    ∙ ap (λ (l : List ℕ). take v rest ++ take 2 l) (drop-drop v (at + n + 2) text)
+    ∙ ap (λ (l : List ℕ). take v rest ++ l) (take_two text (at + n + 2 + v) 13 10 0 (omega arith) cr lf) in
     take-add n (2 + (v + 2)) (drop at text)
     ∙ ap (λ (l : List ℕ). take n (drop at text) ++ take (2 + (v + 2)) l) (drop-drop n at text)
     ∙ ap (λ (l : List ℕ). take n (drop at text) ++ l) (take_two text (at + n) 58 32 (v + 2) (omega arith) colon space)
@@ -46,18 +46,18 @@ is_written text at line name_at more value_at within colon space cr lf =
     let n = line.name.len in
     let v = line.value.len in
     let spelled = line_at text at n v (omega arith)
-      (ap (λ (k : ℕ). get_or text k 0) {x = at + n} {y = line.name.start + line.name.len} (omega arith) ∙ colon)
-      (ap (λ (k : ℕ). get_or text k 0) {x = at + n + 1} {y = line.name.start + line.name.len + 1} (omega arith) ∙ space)
-      (ap (λ (k : ℕ). get_or text k 0) {x = at + n + 2 + v} {y = line.value.start + line.value.len} (omega arith) ∙ cr)
-      (ap (λ (k : ℕ). get_or text k 0) {x = at + n + 2 + v + 1} {y = line.value.start + line.value.len + 1} (omega arith) ∙ lf) in
+    (ap (λ (k : ℕ). get_or text k 0) {x = at + n} {y = line.name.start + line.name.len} (omega arith) ∙ colon)
+    (ap (λ (k : ℕ). get_or text k 0) {x = at + n + 1} {y = line.name.start + line.name.len + 1} (omega arith) ∙ space)
+    (ap (λ (k : ℕ). get_or text k 0) {x = at + n + 2 + v} {y = line.value.start + line.value.len} (omega arith) ∙ cr)
+    (ap (λ (k : ℕ). get_or text k 0) {x = at + n + 2 + v + 1} {y = line.value.start + line.value.len + 1} (omega arith) ∙ lf) in
     record {
       ordered = omega arith;
       within = within;
       spelled =
-        ap (λ (k : ℕ). take k (drop at text)) {x = line.value.start + line.value.len + 2 - at} {y = n + (2 + (v + 2))} (omega arith)
-        ∙ spelled
-        ∙ ap (λ (k : ℕ). (take n (drop at text) ++ (58 ∷ 32 ∷ take v (drop k text))) ++ 13 ∷ 10 ∷ []) {x = at + n + 2} {y = line.value.start} (omega arith)
-        ∙ ap (λ (k : ℕ). (take n (drop k text) ++ (58 ∷ 32 ∷ take v (drop line.value.start text))) ++ 13 ∷ 10 ∷ []) (sym name_at);
+          ap (λ (k : ℕ). take k (drop at text)) {x = line.value.start + line.value.len + 2 - at} {y = n + (2 + (v + 2))} (omega arith)
+          ∙ spelled
+          ∙ ap (λ (k : ℕ). (take n (drop at text) ++ (58 ∷ 32 ∷ take v (drop k text))) ++ 13 ∷ 10 ∷ []) {x = at + n + 2} {y = line.value.start} (omega arith)
+          ∙ ap (λ (k : ℕ). (take n (drop k text) ++ (58 ∷ 32 ∷ take v (drop line.value.start text))) ++ 13 ∷ 10 ∷ []) (sym name_at);
     }
 
 -- ---- several lines, one behind another

@@ -21,7 +21,10 @@ fn written_end(text: &[u8], at: usize, line: LinePlaces) -> Option<usize>
     if line.name.start != at || value < 2 || value - 2 != name || text.len() - end < 2 {
         return None;
     }
-    if text[name] == b':' && text[name + 1] == b' ' && text[end] == b'\r' && text[end + 1] == b'\n'
+    if text[name] == b':'
+        && text[name + 1] == b' '
+        && text[end] == b'\r'
+        && text[end + 1] == b'\n'
     {
         Some(end + 2)
     } else {
