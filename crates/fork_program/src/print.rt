@@ -97,6 +97,11 @@ pub fn append_reply<A: Allocator + Clone>(
     text.extend_from_slice(&line)
 }
 
+/// Appends the line of an event that is refused, as the context has taken as many as it may.
+///
+/// # Errors
+///
+/// Want of memory.
 pub fn append_full<A: Allocator>(text: &mut Vec<u8, A>) -> Result<(), AllocError>
     ensures { OnOk result (text.new.items ≡ text.old.items ++ ended (codes "full")) }
 {

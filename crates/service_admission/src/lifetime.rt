@@ -57,6 +57,7 @@ impl Lifetime {
         }
     }
 
+    /// Whether the service stands there at this moment.
     pub fn is_in(&self, state: ServiceState) -> bool {
         self.state.load(Ordering::SeqCst) == state.code()
     }
@@ -84,6 +85,7 @@ impl Lifetime {
         );
     }
 
+    /// Notes that the service has ended, wherever it stood: it opens no call any more.
     pub fn end(&self) {
         self.state
             .store(ServiceState::Ended.code(), Ordering::SeqCst);
