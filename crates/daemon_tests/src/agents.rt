@@ -1,5 +1,5 @@
 //! Who calls and who is called, as sockets of this process.
-use call_affinity::call_id;
+use proxy_threads::call_id;
 use sip_lex::cut_at;
 use std::alloc::{AllocError, Global};
 use std::net::{Ipv4Addr, Net, SocketAddr, SocketAddrV4, UdpSocket};

@@ -4,9 +4,9 @@ use crate::outgoing::Outgoing;
 use crate::texts::{
     CALLER, CONFIGURATION, Request, answer_text, has, place_of, request_text, tag_of,
 };
-use call_affinity::call_id;
 use proxy_dispatch::Received;
 use proxy_service::{RunSettings, Service};
+use proxy_threads::call_id;
 use service_admission::ServiceState;
 use service_files::{DaemonFault, Identity, read_text};
 use sip_uri::Hop;

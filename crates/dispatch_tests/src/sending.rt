@@ -1,7 +1,7 @@
 //! The way of datagrams to the socket.
 use crate::holds::holds;
 use fork_call::{Cause, Datagram, Port};
-use proxy_dispatch::{SendCounter, SocketPort};
+use proxy_threads::{SendCounter, SocketPort};
 use sip_uri::Hop;
 use sockets::{SendOutcome, Socket, SocketWaits};
 use std::alloc::Global;

@@ -3,7 +3,6 @@ pub mod Purpose
 pub mod Admitting
 pub mod Asking
 pub mod Looks
-pub mod Next
 pub mod Sent
 pub mod Passing
 pub mod Becomes

@@ -1,8 +1,7 @@
 //! What becomes of a datagram that a proxy receives (RFC 3261 sections 11, 16.2, 16.7, 16.10, 16.11, 17.1.3, 17.2.3 and
 //! 18): a request goes to the server transaction that it belongs to, opens a call where it is admitted, or is answered with
 //! a status of the proxy's own; a response goes to the client transaction of its branch, or is dropped; an ACK that is for no
-//! call is absorbed or goes on. And what each thread of a proxy needs for that, whichever proxy it is: a port over the socket, the
-//! calls that are due, and what is to be done next with one that was carried. Begin with `handle`.
+//! call is absorbed or goes on. Begin with `handle`.
 #![tactic(auto)]
 
 mod acks;
@@ -10,12 +9,9 @@ mod admission;
 mod answers;
 mod asking;
 mod calls;
-mod carrying;
 mod datagrams;
 mod delivery;
-mod memory;
 mod outcome;
-mod port;
 mod purpose;
 mod received;
 mod requests;
@@ -23,8 +19,5 @@ mod responses;
 
 pub use admission::{Admission, Opener, Unlimited};
 pub use calls::{ReadBranch, SharedCalls};
-pub use carrying::{NextStep, carry_due, carry_from, next_step};
 pub use datagrams::{Handled, handle, handle_message};
-pub use memory::ReadyMemory;
-pub use port::{SendCounter, SocketPort, own_of};
 pub use received::{Received, ReceivedMessage};

@@ -15,7 +15,7 @@ use crate::visit::Visit;
 use call_laws::calls_that_are_over_are_quiet;
 use call_table::Removal;
 use fork_call::{Call, Port, carry};
-use proxy_dispatch::{NextStep, next_step};
+use proxy_threads::{NextStep, next_step};
 use std::alloc::Allocator;
 use std::sync::Wait;
 use std::time::{Clock, SystemTime};

@@ -3,7 +3,7 @@ use crate::calls::{Search, ServiceCalls};
 use crate::service::Service;
 use crate::visit::Visit;
 use fork_call::Port;
-use proxy_dispatch::{carry_due, carry_from};
+use proxy_threads::{carry_due, carry_from};
 use service_admission::Seen;
 use std::alloc::Allocator;
 use std::sync::Wait;

@@ -1,7 +1,7 @@
 //! Notes of what is dropped.
 use fork_call::Cause;
 use log::{Log, warn};
-use proxy_dispatch::SendCounter;
+use proxy_threads::SendCounter;
 use sockets::SendOutcome;
 use std::sync::atomic::{AtomicU64, Ordering};
 

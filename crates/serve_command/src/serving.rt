@@ -15,7 +15,7 @@ use crate::worker::TurnProxy;
 use call_table::Inbox;
 use fork_call::Setup;
 use log::Log;
-use proxy_dispatch::own_of;
+use proxy_threads::own_of;
 use sockets::{Socket, SocketWaits, datagram_buffer, is_shared, print_listening};
 use std::alloc::Global;
 use std::io::Print;

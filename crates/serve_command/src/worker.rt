@@ -7,10 +7,8 @@ use crate::jobs::JobReceiver;
 use call_table::{Schedule, Shelf};
 use fork_call::{Call, Port, Setup, carry};
 use log::Log;
-use proxy_dispatch::{
-    Handled, NextStep, ReadyMemory, Received, SharedCalls, SocketPort, Unlimited, carry_due,
-    carry_from, handle, next_step,
-};
+use proxy_dispatch::{Handled, Received, SharedCalls, Unlimited, handle};
+use proxy_threads::{NextStep, ReadyMemory, SocketPort, carry_due, carry_from, next_step};
 use sockets::Socket;
 use std::alloc::{AllocError, Allocator, Global};
 use std::sync::Wait;

@@ -2,8 +2,8 @@
 //! declines at once. One socket of this process is the caller and all targets.
 use crate::holds::holds;
 use crate::printed::Printed;
-use call_affinity::call_id;
 use log::Log;
+use proxy_threads::call_id;
 use serve_command::serve_to;
 use sip_lex::cut_at;
 use std::alloc::{AllocError, Global};

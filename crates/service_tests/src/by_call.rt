@@ -1,6 +1,6 @@
 //! The Call-ID of a datagram, and the group of calls that its call is of.
 use crate::holds::holds;
-use call_affinity::{call_id, group_of};
+use proxy_threads::{call_id, group_of};
 use std::alloc::AllocError;
 
 /// Datagrams, and the Call-ID that is found in each.

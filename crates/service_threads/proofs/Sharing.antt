@@ -6,19 +6,19 @@ use Rattle.std.proofs.alloc.Global.TheSendSync as heap
 use Rattle.std.proofs.option.Option.TheSendSync as option
 use Rattle.std.specs.contracts.alloc.Global.{the_row as heap_row}
 use Rattle.std.specs.contracts.impls.GlobalAllocator.TheImpl.{ghosts}
-use Rattle.call_affinity.proofs.laws.Crossing as group
-use Rattle.call_affinity.proofs.room.WaitingRoom.TheSendSync as room
-use Rattle.call_affinity.specs.contracts.group.CallGroup.{the_row as group_row}
+use Rattle.proxy_threads.proofs.laws.Crossing as group
+use Rattle.proxy_threads.proofs.room.WaitingRoom.TheSendSync as room
+use Rattle.proxy_threads.specs.contracts.group.CallGroup.{the_row as group_row}
 use Rattle.sockets.proofs.laws.Crossing as parts
 use Rattle.sockets.specs.contracts.socket.Socket as socket
 use Rattle.call_table.proofs.laws.Crossing.{epoch_sync}
 use Rattle.service_threads.proofs.idle.IdleWorkers.TheSendSync as idle
 use Rattle.service_threads.proofs.opening.Listeners.TheSendSync as listeners
-use Rattle.call_affinity.proofs.packet.Packet.TheSendSync as packet
+use Rattle.proxy_threads.proofs.packet.Packet.TheSendSync as packet
 use Rattle.service_threads.proofs.proxy.Paths.TheSendSync as paths
 use Rattle.service_threads.proofs.writer.JournalWriter.TheSendSync as journal
-use Rattle.call_affinity.specs.contracts.groups.CallGroups as groups
-use Rattle.call_affinity.specs.contracts.packet.Packet.{the_row as packet_row}
+use Rattle.proxy_threads.specs.contracts.groups.CallGroups as groups
+use Rattle.proxy_threads.specs.contracts.packet.Packet.{the_row as packet_row}
 use Rattle.service_threads.specs.contracts.proxy.ServiceProxy as proxy
 use Rattle.service_threads.specs.contracts.receiving.Receiving as receiving
 use Rattle.service_threads.specs.contracts.serving.Server as server

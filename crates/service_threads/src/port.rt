@@ -1,7 +1,7 @@
 //! What is counted of the datagrams that a thread sends.
 use fork_call::Cause;
 use metrics::{Count, DatagramCounts, SentCounts};
-use proxy_dispatch::{SendCounter, SocketPort};
+use proxy_threads::{SendCounter, SocketPort};
 use sockets::{SendOutcome, Socket};
 
 /// Counts what is sent, by its cause, and what is not.

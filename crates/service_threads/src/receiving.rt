@@ -2,8 +2,8 @@
 //! receive, it enters the datagram's group of calls, or hands the datagram over to the worker that is on that group; so what comes of one
 //! call is handled in the order in which it came. It lets the next one receive where one more datagram waits.
 use crate::idle::IdleWorkers;
-use call_affinity::{CallGroups, GroupClaim};
 use metrics::DatagramCounts;
+use proxy_threads::{CallGroups, GroupClaim};
 use service_admission::SourceLimits;
 use sip_uri::Hop;
 use sockets::Socket;

@@ -17,7 +17,7 @@ use fork_call::Setup;
 use libc::net;
 use libc::types::pollfd;
 use metrics::{PageSockets, answer_scrapers};
-use proxy_dispatch::own_of;
+use proxy_threads::own_of;
 use service_files::{DaemonFault, Options, ProxyFiles, read_setup, read_text};
 use sip_uri::Hop;
 use sockets::{Socket, is_shared, print_listening};

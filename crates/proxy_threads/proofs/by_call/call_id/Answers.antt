@@ -1,7 +1,7 @@
 use Rattle.std.proofs.Common.{◌∙◌, Some, ap, sym}
 use Rattle.std.specs.Option.{option_copied}
-use Rattle.call_affinity.proofs.CallIds.{goes_on, in_line, is_found, is_other}
-use Rattle.call_affinity.proofs.by_call.call_id.Goals as goal
+use Rattle.proxy_threads.proofs.CallIds.{goes_on, in_line, is_found, is_other}
+use Rattle.proxy_threads.proofs.by_call.call_id.Goals as goal
 
 pub returns-in_default : goal.returns-in_default
 returns-in_default c =

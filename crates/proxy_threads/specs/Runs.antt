@@ -1,6 +1,6 @@
 -- What is handed over to the workers that are on a group, and what they take, one after another.
 use Rattle.std.specs.Prelude.{◌≡◌, List, [], ◌∷◌}
-use Rattle.call_affinity.specs.Groups.{GroupState, with_first, with_last}
+use Rattle.proxy_threads.specs.Groups.{GroupState, with_first, with_last}
 
 pub data Step (T : Type 0) : Type 0 where
   -- a job is handed over

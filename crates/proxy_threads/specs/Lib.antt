@@ -1,3 +1,4 @@
 pub mod CallId
 pub mod Groups
 pub mod Runs
+pub mod Next

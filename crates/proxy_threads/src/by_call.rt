@@ -1,7 +1,7 @@
 //! The Call-ID of a datagram, as it is found before anything else of it is read, and the group of calls that its call is of.
 ghost use Rattle.std.specs.Prelude.{◌≡◌, ◌≤◌, length};
 ghost use Rattle.std.specs.Option.{option_copied};
-ghost use Rattle.call_affinity.specs.CallId.{behind_compact_name, behind_long_name, call_id, digest_of, first_word, group_of, is_blank, skip_blanks, skip_word, value_at};
+ghost use Rattle.proxy_threads.specs.CallId.{behind_compact_name, behind_long_name, call_id, digest_of, first_word, group_of, is_blank, skip_blanks, skip_word, value_at};
 
 use sip_lex::{cut_at, is_space, trim_start};
 use std::hash::{FoldHasher, Hasher};

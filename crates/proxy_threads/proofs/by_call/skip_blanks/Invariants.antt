@@ -1,6 +1,6 @@
 use Rattle.std.proofs.Common.{◌≡◌, length}
-use Rattle.call_affinity.specs.CallId.{skip_blanks}
-use Rattle.call_affinity.proofs.by_call.skip_blanks.Given as goal
+use Rattle.proxy_threads.specs.CallId.{skip_blanks}
+use Rattle.proxy_threads.proofs.by_call.skip_blanks.Given as goal
 
 abbrev pub invariant-loop-rest : goal.invariant-loop-rest
 invariant-loop-rest l = skip_blanks l.rest ≡ skip_blanks l.text

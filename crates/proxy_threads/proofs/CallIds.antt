@@ -2,7 +2,7 @@
 use Rattle.std.proofs.Common.{◌≡◌, ℕ, Bool, true, false, cond, List, [], ◌∷◌, Option, Some, None, refl, ap, sym, ◌∙◌}
 use Rattle.std.specs.Prelude.{◌==◌}
 use Rattle.sip_lex.specs.Cut.{cut, is}
-use Rattle.call_affinity.specs.CallId.{found_in, found_or, value_at, first_word}
+use Rattle.proxy_threads.specs.CallId.{found_in, found_or, value_at, first_word}
 
 abbrev pub in_line : Option (List ℕ) → Option (List ℕ)
 in_line None = None

@@ -6,8 +6,8 @@ use Rattle.fork_model.specs.Log.{core_of}
 use Rattle.fork_model.specs.Table.{is_finished, is_succeeded}
 use Rattle.call_model.specs.Call.{Call}
 use Rattle.call_model.specs.Due.{IsLeastDue, IsOver}
-use Rattle.proxy_dispatch.specs.declared.carrying.NextStep.{NextStep}
-use Rattle.proxy_dispatch.specs.declared.carrying.NextStep.TheVariants as next
+use Rattle.proxy_threads.specs.declared.carrying.NextStep.{NextStep}
+use Rattle.proxy_threads.specs.declared.carrying.NextStep.TheVariants as next
 
 -- every branch has ended, and none was answered with a 2xx
 pub record HasFailed (core : Core) : Type 0 where

@@ -1,7 +1,7 @@
 -- What is taken is the front of what was handed over.
 use Rattle.std.proofs.Common.{◌≡◌, List, [], ◌∷◌, ◌++◌, ap, sym, ◌∙◌, append-nil, append_assoc}
-use Rattle.call_affinity.specs.Groups.{GroupState}
-use Rattle.call_affinity.specs.Runs.{Beside, HandedOver, IsRun, Step, Taken, handed_over, taken}
+use Rattle.proxy_threads.specs.Groups.{GroupState}
+use Rattle.proxy_threads.specs.Runs.{Beside, HandedOver, IsRun, Step, Taken, handed_over, taken}
 
 module _ {T : Type 0} where
   pub in_order : (old new : GroupState T) (steps : List (Step T)) → IsRun old steps new → old.waiting ++ handed_over steps ≡ taken steps ++ new.waiting

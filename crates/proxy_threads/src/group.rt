@@ -1,6 +1,6 @@
 //! A group of calls while workers handle what comes of them.
 ghost use Rattle.std.specs.Prelude.{◌≡◌, ◌≤◌, ◌∷◌, ◌++◌, [], true, false, not, length, nat_le, IfErr, IfNone, IfSome, IsErr, OnErr, OnOk};
-ghost use Rattle.call_affinity.specs.Groups.{most_waiting, with_first, with_last};
+ghost use Rattle.proxy_threads.specs.Groups.{most_waiting, with_first, with_last};
 
 use std::alloc::{Allocator, Global};
 use std::collections::VecDeque;
@@ -21,7 +21,7 @@ pub struct CallGroup<T, A: Allocator = Global> {
 }
 
 impl<T, A: Allocator> Model for CallGroup<T, A> {
-    ghost use Rattle.call_affinity.specs.Groups.{GroupState, IsAttended};
+    ghost use Rattle.proxy_threads.specs.Groups.{GroupState, IsAttended};
 
     ghost Value = { GroupState T };
 

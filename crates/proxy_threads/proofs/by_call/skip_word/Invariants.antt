@@ -1,6 +1,6 @@
 use Rattle.std.proofs.Common.{◌≡◌, ◌≤◌, length}
-use Rattle.call_affinity.specs.CallId.{skip_word}
-use Rattle.call_affinity.proofs.by_call.skip_word.Given as goal
+use Rattle.proxy_threads.specs.CallId.{skip_word}
+use Rattle.proxy_threads.proofs.by_call.skip_word.Given as goal
 
 abbrev pub invariant-loop-rest : goal.invariant-loop-rest
 invariant-loop-rest l = (skip_word l.rest ≡ skip_word l.text) × (length l.rest ≤ length l.text)

@@ -1,7 +1,7 @@
 //! Which calls are carried at a moment, and what is to be done with one that was carried.
 ghost use Rattle.std.specs.Prelude.{◌≡◌, ◌≤◌, true, false, IfOk, IfSome, OnErr};
 ghost use Rattle.fork_model.specs.Log.{core_of};
-ghost use Rattle.proxy_dispatch.specs.Next.{EndsBy, IsNext};
+ghost use Rattle.proxy_threads.specs.Next.{EndsBy, IsNext};
 
 use call_table::{Schedule, Shelf};
 use fork_call::{Call, Carried};

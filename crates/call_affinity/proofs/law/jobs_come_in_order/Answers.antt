@@ -1,5 +1,0 @@
-use Rattle.call_affinity.proofs.InOrder.{in_order}
-use Rattle.call_affinity.proofs.law.jobs_come_in_order.Goals as goal
-
-pub returns : goal.returns
-returns g c = in_order
