@@ -111,6 +111,8 @@ enum Turn {
     GoesOn,
     /// A branch is waited for until that moment.
     WaitsFor(u16, Option<u64>),
+    /// The transaction of the caller wants a tick then.
+    ServerIsDue(Option<u64>),
 }
 
 /// A moment in milliseconds, what happens then, and what that shows.
@@ -146,6 +148,7 @@ fn goes(alloc: Global, call: &mut Call, now: u64, turn: Turn) -> bool {
         Turn::HasPosted(count) => call.book().history().len() == count,
         Turn::GoesOn => !call.over(),
         Turn::WaitsFor(n, until) => call.waits_until(n) == until,
+        Turn::ServerIsDue(at) => call.server_due() == at,
     }
 }
 
@@ -170,6 +173,11 @@ const SENDING: &[Moment] = &[
     (0, Turn::Sends(FIRST_SENT), "the 100 and the requests"),
     (0, Turn::Rests, "nothing more"),
     (0, Turn::IsDue(500), "timer A is next"),
+    (
+        0,
+        Turn::ServerIsDue(None),
+        "the caller waits, and no timer runs for it",
+    ),
     (
         0,
         Turn::WaitsFor(0, Some(181_000)),
@@ -218,6 +226,11 @@ const TAKING: &[Moment] = &[
         "the first, which was cancelled, is given up then",
     ),
     (20, Turn::WaitsFor(1, None), "the second has ended"),
+    (
+        20,
+        Turn::ServerIsDue(Some(32_020)),
+        "timer L runs since the 200 went up",
+    ),
 ];
 
 #[test]

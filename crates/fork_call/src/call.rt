@@ -7,6 +7,7 @@ ghost use Rattle.call_model.specs.Failed.{Fails};
 ghost use Rattle.call_model.specs.Pump.{Pumps};
 ghost use Rattle.call_model.specs.SeenStep.{pumped};
 ghost use Rattle.call_model.specs.SeenTaken.{seen_taken};
+ghost use Rattle.call_model.specs.Server.{served_due};
 ghost use Rattle.call_model.specs.Take as take;
 ghost use Rattle.call_state.specs.Kinds.{is_response};
 ghost use Rattle.call_state.specs.Matching.{BelongsTo, BelongsToNone, IsReadBranch};
@@ -299,6 +300,14 @@ impl<A: Allocator + Clone> Call<A> {
         }
         self.state.is_sized();
         earlier(self.state.server_due(), self.schedule.least())
+    }
+
+    /// The moment at which the transaction of the caller wants a tick; None where none of its timers runs (RFC 3261 section
+    /// 17.2).
+    pub fn server_due(&self) -> Option<u64>
+        ensures { result ≡ served_due self.now.server.machine }
+    {
+        self.state.server_due()
     }
 
     /// Whether every branch has ended, every transaction is over, and nothing is owed or will be due.
