@@ -132,18 +132,37 @@ const TIMEOUT: &[Moment] = &[
     ),
 ];
 
-/// A call of which each branch has ended is looked at in steps of 20 milliseconds.
+/// A call of which each branch has ended is looked at in steps of 20 milliseconds, and where it is no INVITE once. What is sent again
+/// behind timer K of its branch, five seconds after the answer, is treated as before it.
 const STEPS: &[Moment] = &[
     (0, Turn::Asks(OPTIONS)),
     (
         25,
         Turn::Answers(BOB, "OPTIONS", "one", "SIP/2.0 404 Not Found"),
     ),
-    (32_025, Turn::Passes(25)),
+    (4_000, Turn::Skips),
+    (
+        4_000,
+        Turn::Answers(BOB, "OPTIONS", "one", "SIP/2.0 404 Not Found"),
+    ),
+    (4_000, Turn::SendsNothing),
+    (10_000, Turn::Passes(4_000)),
+    (
+        10_000,
+        Turn::Answers(BOB, "OPTIONS", "one", "SIP/2.0 404 Not Found"),
+    ),
+    (10_000, Turn::SendsNothing),
+    (10_100, Turn::Asks(OPTIONS)),
+    (10_100, Turn::Sends(CALLER, "SIP/2.0 404 ", "one")),
+    (10_100, Turn::SendsNothing),
+    (32_025, Turn::Passes(10_100)),
     (32_039, Turn::Ticks),
     (32_039, Turn::Keeps(1, 1)),
+    (32_039, Turn::Counts("forkproxy_timers_total 0")),
     (32_040, Turn::Ticks),
     (32_040, Turn::Keeps(0, 1)),
+    (32_040, Turn::Counts("forkproxy_timers_total 1")),
+    (32_040, Turn::SendsNothing),
 ];
 
 /// Requests to bob, each of a call of its own.
