@@ -1,11 +1,19 @@
-use Rattle.proxy_config.proofs.Common.{◌≡◌, ◌∙◌, ℕ, Bool, List, [], ◌∷◌, Result, Ok, Err, Draft, Setup, ap, arith, cond, finished_draft, is_whole, length, sym, true}
+use Rattle.proxy_config.proofs.Common.{◌≡◌, ◌∙◌, ℕ, Bool, List, [], ◌∷◌, Result, Ok, Err, Draft, Setup, ap, arith, cond, finished_draft, is_whole, length, subst, sym, true}
 use Rattle.std.proofs.Common.{eqb}
 use Rattle.std.proofs.lemmas.Bool.{eqb-true}
+use Rattle.proxy_config.specs.Setup.{IsKept}
 use Rattle.proxy_config.proofs.draft.SetupDraft.finished.Goals as goal
 
 finished_is : (number : ℕ) (draft : Draft) (rest : List ℕ) (s : Setup) → eqb (length rest) 0 ≡ true → is_whole draft.phase ≡ true → s ≡ draft.setup → finished_draft number draft rest ≡ Ok s
 finished_is number draft [] s empty whole same = ap (λ (b : Bool). cond {A = Result Setup ℕ} b (Ok draft.setup) (Err number)) whole ∙ ap Ok (sym same)
 finished_is number draft (b ∷ bs) s empty whole same = absurd (omega (arith, eqb-true (length (b ∷ bs)) 0 empty))
+
+pub into_setup-requires : goal.into_setup-requires
+into_setup-requires g c =
+    let whole : is_whole c.args.self.phase ≡ true = grind (arith, c.is_whole.ensures, c.if-not-is_whole.false) in
+    let same : c.self.inside.parts ≡ c.args.self.setup = λ k. (c.self.view_is k).setup in
+    let P : Setup → Type 0 = λ s. IsKept s.own s.domain s.locations in
+    subst P (sym same) (c.requires whole)
 
 pub returns : goal.returns
 returns g c =
