@@ -18,15 +18,15 @@ closed_before n was_closed cancels u v rows k all closed led numbers =
 pub closes_now : (n : ℕ) (was_closed cancels : Bool) (u v : Table) (rows : List ℕ) (k : ℕ) → k ≡ length rows → was_closed ≡ false → u.closed ≡ true
     → v ≡ record u { closed = true; rows = map (closed_row u.kind) u.rows } → rows ≡ filter (gets_cancel u.kind u.rows) (numbers_below (length u.rows))
     → IsSettled n was_closed cancels u v (drop k rows) (take k rows)
-closes_now n was_closed cancels u v rows k all open closed led numbers =
-    inr (inl (open, closed, led, drop_all k rows (omega arith), take_all k rows (omega arith) ∙ numbers))
+closes_now n was_closed cancels u v rows k all before closed led numbers =
+    inr (inl (before, closed, led, drop_all k rows (omega arith), take_all k rows (omega arith) ∙ numbers))
 
 pub goes_on : (n : ℕ) (was_closed cancels : Bool) (u v : Table) (front rows : List ℕ) (k : ℕ) → k ≡ length front → was_closed ≡ false → u.closed ≡ false
     → front ≡ number_if cancels n → AddsStarted u v front rows → IsSettled n was_closed cancels u v (drop k rows) (take k rows)
-goes_on n was_closed cancels u v front rows k all open on numbers adds =
+goes_on n was_closed cancels u v front rows k all was on numbers adds =
     let behind : drop k rows ≡ adds.started = ap (drop k) adds.joins ∙ drop_at front adds.started k (sym all) in
-    let before : take k rows ≡ front = ap (take k) adds.joins ∙ take_at front adds.started k (sym all) in
-    inr (inr (open, on, subst (λ (ns : List ℕ). Starts u v ns) (sym behind) adds.starts, before ∙ numbers))
+    let ahead : take k rows ≡ front = ap (take k) adds.joins ∙ take_at front adds.started k (sym all) in
+    inr (inr (was, on, subst (λ (ns : List ℕ). Starts u v ns) (sym behind) adds.starts, ahead ∙ numbers))
 
 pub some_started : (old new : Table) (before after : List ℕ) (first count : ℕ) → IsReady old.rows first count → new ≡ record old { rows = tried old.rows first count }
     → after ≡ before ++ numbers_from first count → AddsStarted old new before after

@@ -3,6 +3,9 @@ use Rattle.fork_context.proofs.Common.{◌≡◌, ◌≤◌, ◌<◌, ◌+◌, a
 use Rattle.fork_context.proofs.Common.{◌||◌, filter, append-nil, length-state, Kind, Row, Table, State, End, Rung, Ended, is_cancelled, is_row, is_invite, Event, numbers_below, Effect, with_state, with_effect, change, closed_state, became}
 use Rattle.fork_context.proofs.Common.{has_become, IsInSeries, next_of_stray, Found, found, changed_row, tried, closed_row, IsClosedWhole, is_ringing, gets_cancel, RowRef, effect_of, may_take, not-true, and_left, and_right, number_if, cancelled_at}
 use Rattle.fork_context.proofs.Common.{common_steps}
+use Rattle.std.proofs.Common.{drop, take, take_all}
+use Rattle.std.proofs.lemmas.List.{drop_all}
+use Rattle.context_values.specs.declared.reply.Numbers.{Numbers}
 use Rattle.fork_context.specs.declared.effect.Effect as declared
 use Rattle.fork_context.specs.inner.Change.{cancels}
 use Rattle.fork_context.specs.inner.Ready.{Starts}
@@ -26,6 +29,13 @@ same_became test rows = sym (became_none test rows rows (λ k row is e. ap (is_r
 pub stray_step : (t : Table) (event : Event) (at : ℕ) (started cancelled : List ℕ) → change t event at ≡ None → (started ≡ []) × (cancelled ≡ [])
     → IsStepped t event at t started cancelled
 stray_step t event at started cancelled none both = grind (arith, common_steps, next_of_stray, same_became)
+
+pub stray_numbers : {A : Type 0} (t : Table) (event : Event) (at : ℕ) (numbers : Numbers A) → change t event at ≡ None
+    → (numbers.rows.items ≡ []) × (numbers.cancelled ≡ 0)
+    → IsStepped t event at t (drop numbers.cancelled numbers.rows.items) (take numbers.cancelled numbers.rows.items)
+stray_numbers t event at numbers stray none =
+    let few : length numbers.rows.items ≤ numbers.cancelled = omega (arith, ap length none.0) in
+    stray_step t event at _ _ stray (drop_all numbers.cancelled numbers.rows.items few, take_all numbers.cancelled numbers.rows.items few ∙ none.0)
 
 -- ---- the table closes
 

@@ -1,4 +1,4 @@
-use Rattle.fork_context.proofs.Common.{arith, ◌+◌, ◌++◌, ℕ, [], ◌∷◌, ap, ◌∙◌, sym, List, common_steps, length-append}
+use Rattle.fork_context.proofs.Common.{arith, ◌+◌, ◌++◌, ℕ, [], ◌∷◌, ap, ◌∙◌, sym, List, common_steps, length-append, numbers_from}
 use Rattle.std.proofs.Common.{append_assoc, append-nil}
 use Rattle.fork_context.proofs.Numbers.{length_numbers_from, numbers_from_more}
 use Rattle.fork_context.proofs.fork.push_numbers.Goals as goal
@@ -13,7 +13,7 @@ pub loop-n-preserved : goal.loop-n-preserved
 loop-n-preserved g c = (
   c.push_reserved.ensures.items
       ∙ ap (λ (ns : List ℕ). ns ++ (c.args.first + c.loop-n.n) ∷ []) c.loop-n.invariant.0
-      ∙ append_assoc _ _ _
+      ∙ append_assoc c.args.numbers.now.items (numbers_from c.args.first c.loop-n.n) ((c.args.first + c.loop-n.n) ∷ [])
       ∙ ap (λ (ns : List ℕ). c.args.numbers.now.items ++ ns) (sym (numbers_from_more c.args.first c.loop-n.n)),
   omega arith,
 )
