@@ -51,10 +51,10 @@ fn first_route<A: Allocator>(message: &Message<A>) -> Option<&[u8]>
 fn with_routes<A: Allocator>(message: &Message<A>) -> HeaderLines<'_>
     ensures { values_of (codes "route") (views result) ≡ values_of (codes "route") message.now.headers }
 {
-    match first_route(message) {
-        None => HeaderLines::none(),
-        Some(_) => message.headers(),
+    if first_route(message).is_none() {
+        return HeaderLines::none();
     }
+    message.headers()
 }
 
 /// Whether digits have a zero in front.
