@@ -1,5 +1,5 @@
 //! Requests: known by their keys, or new.
-ghost use Rattle.std.specs.Prelude.{◌≡◌, ℕ, List, IfOk, Some};
+ghost use Rattle.std.specs.Prelude.{◌≡◌, ℕ, false, List, IfOk, OnErr, Some};
 ghost use Rattle.std.specs.Option.{option_map};
 ghost use Rattle.sip_build.specs.Forwarding.{is_request};
 ghost use Rattle.sip_route.specs.RequestKey.{request_key};
@@ -12,6 +12,7 @@ ghost use Rattle.proxy_dispatch.specs.Asking.{asks_service};
 ghost use Rattle.proxy_dispatch.specs.Becomes.{AdmittedBecomes, NewBecomes, OpeningBecomes, RequestBecomes, UnknownBecomes};
 ghost use Rattle.proxy_dispatch.specs.Looks.{Look, shown, ShowsAll};
 ghost use Rattle.proxy_dispatch.specs.Purpose.{purpose_of};
+ghost use Rattle.proxy_dispatch.specs.inner.Becomes.{is_opened};
 ghost use Rattle.proxy_dispatch.specs.inner.Sent.{seen_sent};
 
 use crate::acks::acknowledged;
@@ -127,7 +128,10 @@ fn admitted<A: Allocator + Clone, R: Wait>(
 }
 
 /// Whether a call was opened.
-fn has_opened<A: Allocator>(outcome: &Result<Outcome<A>, AllocError>) -> bool {
+fn has_opened<A: Allocator>(outcome: &Result<Outcome<A>, AllocError>) -> bool
+    ensures opened { IfOk outcome.now (λ outcome. result ≡ is_opened outcome.handled) }
+    ensures refused { OnErr outcome.now (result ≡ false) }
+{
     match outcome {
         Ok(outcome) => matches!(outcome.handled, Handled::Opened(_)),
         Err(_) => false,
