@@ -3,9 +3,8 @@ use crate::bytes::{has, holds_of, is};
 use crate::holds::holds;
 use sip_lex::{
     Shelter, are_digits, cut_at, cut_at_space, cut_near, cut_outside, cut_quoted, cut_token,
-    first_line,
-    hex_digit, hex_value, is_closed, is_space, is_token, lowered, read_number, read_plain_number,
-    trim, trim_end, trim_start,
+    first_line, hex_digit, hex_value, is_closed, is_space, is_token, lowered, read_number,
+    read_plain_number, trim, trim_end, trim_start,
 };
 use std::alloc::Global;
 use std::process::Abort;
@@ -73,7 +72,11 @@ fn cuts_in_two(rt: HostRuntime) {
     parts_are(&rt, text, cut_at_space(text), b"INVITE", b"sip:h SIP/2.0");
     match cut_token(b"Via: x", b':') {
         Some((token, behind)) => {
-            holds(&rt, is(token, b"Via") && is(behind, b" x"), "the token before the mark");
+            holds(
+                &rt,
+                is(token, b"Via") && is(behind, b" x"),
+                "the token before the mark",
+            );
         }
         None => holds(&rt, false, "a token stands before the mark"),
     }

@@ -3,8 +3,8 @@ use crate::bytes::is;
 use crate::context::happening::{key_of, offer, targets};
 use crate::holds::holds;
 use context_values::{
-    NewTarget, Offer, RowExtras, contact_qs, extras_at, numbered, qs_at, qs_in_order, target_extras,
-    target_qs,
+    NewTarget, Offer, RowExtras, contact_qs, extras_at, numbered, qs_at, qs_in_order,
+    target_extras, target_qs,
 };
 use fork_context::Target;
 use std::alloc::Global;
