@@ -123,6 +123,8 @@ const LOOKS: &[Moment] = &[(0, Turn::Ticks), (0, Turn::Sleeps(10))];
 enum Came {
     /// There is no such growth.
     Whole,
+    /// It was done without.
+    Unneeded,
     Lost,
     Opened,
     Missed,
@@ -142,11 +144,23 @@ fn what_came<R: Wait + Clock>(rt: &R, service: &mut Scarce<'_>) -> Came {
 /// Whether the service does behind that what it should.
 fn goes_on<R: Wait + Clock>(rt: &R, service: &mut Scarce<'_>, came: Came) -> bool {
     match came {
-        Came::Whole => goes(rt, service, WHOLE),
+        Came::Whole | Came::Unneeded => goes(rt, service, WHOLE),
         Came::Lost => goes(rt, service, LOST),
         Came::Opened => goes(rt, service, OPENED),
         Came::Missed => goes(rt, service, LOOKS) && goes(rt, service, OPENED),
     }
+}
+
+/// Whether all is done where the growth of this number is refused, as the one is by which a request that is kept gives memory back.
+fn is_unneeded<R: Wait + Clock>(rt: &R, alloc: Global, growth: u64) -> bool {
+    let heap = Refusing::new(alloc);
+    let Some(mut service) = scarce(alloc, &heap) else {
+        return false;
+    };
+    heap.refuse_one(growth);
+    let comes = goes(rt, &mut service, COMES);
+    heap.refuse_none();
+    comes && goes_on(rt, &mut service, Came::Unneeded)
 }
 
 /// What a datagram comes to of which the growth of this number is refused; None where the service does not go as it should.
@@ -164,14 +178,17 @@ fn refused_at<R: Wait + Clock>(rt: &R, alloc: Global, growth: u64) -> Option<Cam
     };
     if comes && goes_on(rt, &mut service, came) {
         Some(came)
+    } else if is_unneeded(rt, alloc, growth) {
+        Some(Came::Unneeded)
     } else {
         None
     }
 }
 
-/// How often a datagram was lost, opened a call, and opened one whose deadline could not be added.
+/// How often a growth was done without, and a datagram was lost, opened a call, and opened one whose deadline could not be added.
 #[derive(Clone, Copy)]
 struct Tally {
+    unneeded: u64,
     lost: u64,
     opened: u64,
     missed: u64,
@@ -180,6 +197,7 @@ struct Tally {
 /// What a datagram comes to of which growth 1, 2, 3 and so on is refused, until none is; None where a service does not go as it should.
 fn each_refused<R: Wait + Clock>(rt: &R, alloc: Global) -> Option<Tally> {
     let mut tally = Tally {
+        unneeded: 0,
         lost: 0,
         opened: 0,
         missed: 0,
@@ -187,6 +205,7 @@ fn each_refused<R: Wait + Clock>(rt: &R, alloc: Global) -> Option<Tally> {
     for growth in 1..MOST_GROWTHS {
         match refused_at(rt, alloc, growth)? {
             Came::Whole => return Some(tally),
+            Came::Unneeded => tally.unneeded = tally.unneeded.saturating_add(1),
             Came::Lost => tally.lost = tally.lost.saturating_add(1),
             Came::Opened => tally.opened = tally.opened.saturating_add(1),
             Came::Missed => tally.missed = tally.missed.saturating_add(1),
@@ -200,6 +219,11 @@ fn a_datagram_that_lacks_memory_keeps_nothing_or_opens_its_call(rt: HostRuntime)
     let tally = each_refused(&rt, rt.alloc());
     holds(&rt, tally.is_some(), "each growth of an INVITE");
     if let Some(tally) = tally {
+        holds(
+            &rt,
+            tally.unneeded == 2,
+            "the text and the places of the request give memory back",
+        );
         holds(&rt, tally.lost > 0, "the datagram is lost at some");
         holds(&rt, tally.opened > 0, "the call waits at some");
         holds(&rt, tally.missed > 0, "a deadline is missed at some");

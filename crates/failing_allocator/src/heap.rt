@@ -103,7 +103,7 @@ impl<C: Stateless> Play for Single<'_, C> {
 }
 
 impl<'a> Heap<'a> {
-    /// Whether the call is right with memory, after it was refused. Where a refused call answers anything but that, it is not.
+    /// Whether the call is right with memory, after it was refused. Where a refused call answers anything but that, or what is right, it is not.
     pub fn insist<C: Repeated>(self, call: &mut C) -> bool {
         match self.order {
             Order::Once => self.once(call),
@@ -124,7 +124,7 @@ impl<'a> Heap<'a> {
         }
     }
 
-    /// Calls until no growth is refused.
+    /// Calls until no growth is refused, or those that are refused are done without.
     fn always<C: Repeated>(self, call: &mut C) -> bool {
         for number in 1..MOST {
             self.scarce.refuse_from(number);
@@ -132,7 +132,7 @@ impl<'a> Heap<'a> {
             let is_refused = self.scarce.refused() > 0;
             self.scarce.refuse_none();
             match (answer, is_refused) {
-                (Attempt::Right, false) => return true,
+                (Attempt::Right, _) => return true,
                 (Attempt::NoMemory, true) => {
                     self.told.fetch_add(1, Ordering::SeqCst);
                 }

@@ -335,21 +335,24 @@ impl<R: Wait> Play for Packets<'_, R> {
     }
 }
 
-/// Datagrams, and what they are called.
-const LISTS: &[(&[Packet], &str)] = &[
-    (ASKED, "an OPTIONS request, and strays"),
-    (CANCELLED, "an INVITE that is cancelled"),
+/// Datagrams, how many of their growths are done without, and what they are called. Each request that is marked gives the memory back
+/// in which nothing stands, of its text and of the places in it, and keeps it where a smaller block is refused.
+type Row = (&'static [Packet], u64, &'static str);
+
+const LISTS: &[Row] = &[
+    (ASKED, 8, "an OPTIONS request, and strays"),
+    (CANCELLED, 4, "an INVITE that is cancelled"),
 ];
 
 /// They stand in a function of their own: a proof reads a constant wherever it is named, once for each call beside it.
-fn lists() -> &'static [(&'static [Packet], &'static str)] {
+fn lists() -> &'static [Row] {
     LISTS
 }
 
 #[test]
 fn datagrams_are_handled(rt: HostRuntime) {
-    for &(list, what) in lists() {
+    for &(list, without, what) in lists() {
         let packets = Packets { rt: &rt, list };
-        plays(&rt, &packets, 0, what);
+        plays(&rt, &packets, without, what);
     }
 }

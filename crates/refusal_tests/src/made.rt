@@ -179,17 +179,18 @@ impl Play for InPlace {
     }
 }
 
-/// How a message is made, of which, what it is to say, and the call's name.
-type Row = (Making, &'static [u8], &'static [u8], &'static str);
+/// How a message is made, of which, what it is to say, how many growths are done without, and the call's name. A request that is marked
+/// gives the memory back in which nothing stands, of its text and of the places in it, and keeps it where a smaller block is refused.
+type Row = (Making, &'static [u8], &'static [u8], u64, &'static str);
 
 const ROWS: &[Row] = &[
-    (Making::Marked, REQUEST, MARKED, "mark_received"),
-    (Making::Stripped, ROUTED, STRIPPED, "strip_route"),
-    (Making::Forwarded, REQUEST, FORWARDED, "forward"),
-    (Making::Upward, MOVED, UPWARD_WITH_ANOTHER, "upward"),
-    (Making::Generated, REQUEST, TRYING, "generated"),
-    (Making::Ack, REQUEST, ACK, "ack_of"),
-    (Making::Cancel, REQUEST, CANCEL, "cancel_of"),
+    (Making::Marked, REQUEST, MARKED, 2, "mark_received"),
+    (Making::Stripped, ROUTED, STRIPPED, 0, "strip_route"),
+    (Making::Forwarded, REQUEST, FORWARDED, 0, "forward"),
+    (Making::Upward, MOVED, UPWARD_WITH_ANOTHER, 0, "upward"),
+    (Making::Generated, REQUEST, TRYING, 0, "generated"),
+    (Making::Ack, REQUEST, ACK, 0, "ack_of"),
+    (Making::Cancel, REQUEST, CANCEL, 0, "cancel_of"),
 ];
 
 /// They stand in a function of their own: a proof reads a constant wherever it is named, once for each call beside it.
@@ -200,8 +201,8 @@ fn rows() -> &'static [Row] {
 #[test]
 fn messages_are_made_of_others(rt: HostRuntime) {
     plays(&rt, &InPlace, 0, "add_received");
-    for &(making, of, text, name) in rows() {
+    for &(making, of, text, without, name) in rows() {
         let wanted = Wanted { text };
-        calls(&rt, &Case { making, of, wanted }, 0, name);
+        calls(&rt, &Case { making, of, wanted }, without, name);
     }
 }
