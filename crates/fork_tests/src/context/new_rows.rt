@@ -41,8 +41,11 @@ fn orders(alloc: Global, qs: &[u16]) -> bool {
     }
 }
 
-/// Whether each of these is told in the order in which they are tried.
+/// Whether each of these three is told in the order in which they are tried.
 fn orders_all(alloc: Global, qs: Vec<u16>) -> bool {
+    if qs.len() != 3 {
+        return false;
+    }
     match numbered(&alloc, &qs) {
         Ok(order) => match qs_in_order(&alloc, qs, &order) {
             Ok(ordered) => ordered.as_slice() == [1000, 500, 400].as_slice(),
