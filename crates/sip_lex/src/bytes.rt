@@ -16,11 +16,13 @@ pub fn is_space(byte: u8) -> bool
 }
 
 /// Whether a byte is one of those that may stand in a token beside letters and digits.
-#[inline(never)]
 fn is_token_mark(byte: u8) -> bool
     ensures { result ≡ is_token_mark byte }
 {
-    b"-.!%*_+`'~".contains(&byte)
+    matches!(
+        byte,
+        b'-' | b'.' | b'!' | b'%' | b'*' | b'_' | b'+' | b'`' | b'\'' | b'~'
+    )
 }
 
 /// Whether a byte may stand in a token. Most are letters.
