@@ -1,11 +1,11 @@
 //! The header fields that reading looks at, found in one walk over the header lines.
 
-ghost use Rattle.std.specs.Prelude.{◌≡◌, ◌∷◌, ◌++◌, List, ℕ, [], if◌then◌else◌, length, option_map};
+ghost use Rattle.std.specs.Prelude.{◌≡◌, ◌∷◌, ◌++◌, List, ℕ, [], if◌then◌else◌, length, option_map, true, IfSome};
 ghost use Rattle.std.specs.Option.{option_copied};
 ghost use Rattle.std.specs.Str.{bytes_eq, str_to_ascii_lowercase};
 ghost use Rattle.sip_text.specs.declared.needed.MandatoryHeader.{MandatoryHeader};
 ghost use Rattle.sip_text.specs.Fields.{length_name, needed_name};
-ghost use Rattle.sip_text.specs.Name.{same_name};
+ghost use Rattle.sip_text.specs.Name.{full_name, same_name};
 ghost use Rattle.sip_text.specs.Text.{HeaderText};
 ghost use Rattle.sip_text.specs.inner.Found.{Finds, got, is_length, is_needed, is_same, missing_of, put_first, said_then};
 ghost use Rattle.sip_text.specs.inner.Within.{AreLinesWithin, IsLineWithin};
@@ -32,8 +32,22 @@ fn is_full_name(name: &[u8], full: &[u8]) -> bool
     full.len() == name.len() && full.eq_ignore_ascii_case(name)
 }
 
+/// The needed field that has that name, where it is spelled as most messages spell it.
+#[tactic(auto, unfolding(crate::specs::Name::full_name))]
+fn usual_field(name: &[u8]) -> Option<MandatoryHeader>
+    ensures { IfSome result (λ which. bytes_eq (needed_name which) (str_to_ascii_lowercase (full_name name.now)) ≡ true) }
+{
+    match name {
+        [b'V', b'i', b'a'] => Some(MandatoryHeader::Via),
+        [b'F', b'r', b'o', b'm'] => Some(MandatoryHeader::From),
+        [b'T', b'o'] => Some(MandatoryHeader::To),
+        [b'C', b'S', b'e', b'q'] => Some(MandatoryHeader::CSeq),
+        _ => None,
+    }
+}
+
 /// Which field has that name, in any case and in long or compact form.
-fn field_named(name: &[u8]) -> Field
+fn spelled_field(name: &[u8]) -> Field
     ensures needed { (which : MandatoryHeader) → is_needed which result ≡ same_name (needed_name which) name.now }
     ensures length { is_length result ≡ same_name length_name name.now }
 {
@@ -52,6 +66,17 @@ fn field_named(name: &[u8]) -> Field
         Field::Length
     } else {
         Field::Other
+    }
+}
+
+/// Which field has that name, in any case and in long or compact form. Most messages spell it in one way.
+fn field_named(name: &[u8]) -> Field
+    ensures needed { (which : MandatoryHeader) → is_needed which result ≡ same_name (needed_name which) name.now }
+    ensures length { is_length result ≡ same_name length_name name.now }
+{
+    match usual_field(name) {
+        Some(which) => Field::Needed(which),
+        None => spelled_field(name),
     }
 }
 
