@@ -15,7 +15,7 @@ ghost use Rattle.sip_build.specs.inner.Forwarding.{hops_left};
 ghost use Rattle.sip_build.specs.inner.HeaderRuns.{all_lines};
 ghost use Rattle.sip_route.specs.Hops.{IsHops, hops_name};
 
-use crate::runs::{HeaderRun, run_if_any};
+use crate::runs::{HeaderRun, kept_run, run_if_any};
 use crate::to_target::append_to_target;
 use itoa::Buffer;
 use sip_lex::read_number;
@@ -88,12 +88,12 @@ fn lowered_runs<'a, A: Allocator>(
     let (front, back) = headers.split_at(place);
     let Some((header, after)) = back.split_first() else {
         let seventy = HeaderRun::Line(b"Max-Forwards", hops);
-        let headers = HeaderRun::Kept(headers);
+        let headers = kept_run(headers);
         return [record_route, seventy, headers, HeaderRun::NoLine];
     };
     let lowered = HeaderRun::Line(header.name, hops);
-    let front = HeaderRun::Kept(front);
-    [record_route, front, lowered, HeaderRun::Kept(after)]
+    let front = kept_run(front);
+    [record_route, front, lowered, kept_run(after)]
 }
 
 /// Appends the request as it goes to a target (RFC 3261 section 16.6): its Request-URI is the target's, the proxy's own

@@ -20,6 +20,7 @@ mod place;
 mod responses;
 mod run_lens;
 mod runs;
+mod spelled_lines;
 mod tag;
 mod to_target;
 mod upward_text;

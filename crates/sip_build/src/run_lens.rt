@@ -35,8 +35,8 @@ fn line_len(name: &[u8], value: &[u8]) -> usize
     name.len().saturating_add(value.len()).saturating_add(4)
 }
 
-/// How many bytes the header lines are, one by one.
-fn each_len(headers: HeaderLines<'_>) -> usize
+/// How many bytes the header lines are.
+fn kept_len(headers: HeaderLines<'_>) -> usize
     ensures { result ≡ saturated (length (lines_text (views headers.entry))) }
 {
     let mut len = 0usize;
@@ -44,16 +44,6 @@ fn each_len(headers: HeaderLines<'_>) -> usize
         len = len.saturating_add(line_len(line.name, line.value));
     }
     len
-}
-
-/// How many bytes the header lines are.
-fn kept_len(headers: HeaderLines<'_>) -> usize
-    ensures { result ≡ saturated (length (lines_text (views headers.entry))) }
-{
-    match headers.as_written() {
-        Some(text) => text.len(),
-        None => each_len(headers),
-    }
 }
 
 /// How many bytes a header line under that name is, if it has one.
@@ -122,6 +112,7 @@ fn run_len<A: Allocator>(run: &HeaderRun<'_, A>) -> usize
     match run {
         HeaderRun::NoLine => 0,
         HeaderRun::Kept(headers) => kept_len(*headers),
+        HeaderRun::Spelled(spelled) => spelled.text.len(),
         HeaderRun::Picked(headers, pick) => picked_len(*headers, *pick),
         HeaderRun::Line(name, value) => line_len(name, value),
         HeaderRun::Joined(name, a, b, c) => pieces_len(&[name, b": ", a, b, c, b"\r\n"]),

@@ -15,6 +15,7 @@ ghost use Rattle.sip_build.specs.Upward.{challenge_line};
 use crate::challenges::challenge_name;
 use crate::place::{place, place_line, place_pieces};
 use crate::run_lens::{pieces_len, runs_len};
+use crate::spelled_lines::SpelledLines;
 use fork_rank::Challenge;
 use sip_text::{HeaderLine, HeaderLines};
 use std::alloc::{AllocError, Allocator};
@@ -37,6 +38,8 @@ pub(crate) enum HeaderRun<'a, A: Allocator> {
     NoLine,
     /// Lines as they stand.
     Kept(HeaderLines<'a>),
+    /// The same, where their message has them as they are written.
+    Spelled(SpelledLines<'a>),
     /// Some of these lines.
     Picked(HeaderLines<'a>, Pick<'a>),
     /// A line of that name and value.
@@ -74,6 +77,19 @@ pub(crate) fn run_if_any<'a, A: Allocator>(
     }
 }
 
+/// The lines as they stand. The text that spells them is looked for in their message, once.
+pub(crate) fn kept_run<'a, A: Allocator>(headers: HeaderLines<'a>) -> HeaderRun<'a, A>
+    ensures { lines_of result ≡ views headers.entry }
+{
+    match headers.as_written() {
+        Some(text) => HeaderRun::Spelled(SpelledLines {
+            lines: headers,
+            text,
+        }),
+        None => HeaderRun::Kept(headers),
+    }
+}
+
 /// The name that a header line is written under, if it is written.
 pub(crate) fn picked_name<'a>(line: HeaderLine<'a>, pick: Pick<'a>) -> Option<&'a [u8]>
     ensures { option_copied result ≡ picked_name pick.entry (view_line line.entry) }
@@ -96,8 +112,8 @@ fn place_under(out: &mut [u8], at: usize, value: &[u8], name: Option<&[u8]>) -> 
     }
 }
 
-/// Writes the header lines one by one.
-fn place_each(out: &mut [u8], at: usize, headers: HeaderLines<'_>) -> usize
+/// Writes the header lines.
+fn place_headers(out: &mut [u8], at: usize, headers: HeaderLines<'_>) -> usize
     requires { at + length (lines_text (views headers)) ≤ length out.old }
     ensures { Placed out.old out.new at (lines_text (views headers.entry)) result }
 {
@@ -106,17 +122,6 @@ fn place_each(out: &mut [u8], at: usize, headers: HeaderLines<'_>) -> usize
         end = place_line(out, end, line.name, line.value);
     }
     end
-}
-
-/// Writes the header lines, at once where they stand in their message as they are written.
-fn place_headers(out: &mut [u8], at: usize, headers: HeaderLines<'_>) -> usize
-    requires { at + length (lines_text (views headers)) ≤ length out.old }
-    ensures { Placed out.old out.new at (lines_text (views headers.entry)) result }
-{
-    match headers.as_written() {
-        Some(text) => place(out, at, text),
-        None => place_each(out, at, headers),
-    }
 }
 
 /// Writes those of the header lines that are picked.
@@ -176,6 +181,7 @@ fn place_run<A: Allocator>(out: &mut [u8], at: usize, run: &HeaderRun<'_, A>) ->
     match run {
         HeaderRun::NoLine => at,
         HeaderRun::Kept(headers) => place_headers(out, at, *headers),
+        HeaderRun::Spelled(spelled) => place(out, at, spelled.text),
         HeaderRun::Picked(headers, pick) => place_picked(out, at, *headers, *pick),
         HeaderRun::Line(name, value) => place_line(out, at, name, value),
         HeaderRun::Joined(name, a, b, c) => place_pieces(out, at, &[name, b": ", a, b, c, b"\r\n"]),

@@ -15,7 +15,7 @@ ghost use Rattle.sip_build.specs.SeenKept.{seen_kept, texts};
 ghost use Rattle.sip_build.specs.Upward.{AreKept, challenge_line, contact_lines, is_challenge, others_of, refusal, upward, upward_headers, upward_of};
 
 use crate::made_text::{Front, append_made};
-use crate::runs::{HeaderRun, Pick, run_if_any};
+use crate::runs::{HeaderRun, Pick, kept_run, run_if_any};
 use fork_rank::Challenge;
 use sip_lex::{Shelter, cut_outside, trim};
 use sip_text::{HeaderLines, Message, StartLine};
@@ -49,7 +49,7 @@ fn replaced_runs<'a, A: Allocator>(
         ≡ replaced (codes "via") (option_copied others.entry) (views headers.entry) ++ map challenge_line challenges.now }
 {
     let (front, back) = headers.split_at(header_index(headers, VIA));
-    let front = HeaderRun::Kept(front);
+    let front = kept_run(front);
     let last = HeaderRun::Challenges(challenges);
     let Some((top, after)) = back.split_first() else {
         return [
@@ -65,7 +65,7 @@ fn replaced_runs<'a, A: Allocator>(
     [
         front,
         top,
-        HeaderRun::Kept(after),
+        kept_run(after),
         last,
         HeaderRun::NoLine,
         HeaderRun::NoLine,
@@ -82,7 +82,7 @@ fn exchanged_runs<'a, A: Allocator>(
 {
     let (front, back) = headers.split_at(header_index(headers, CONTACT));
     let others = HeaderRun::Picked(back, Pick::Others(CONTACT));
-    (HeaderRun::Kept(front), HeaderRun::Contacts(kept), others)
+    (kept_run(front), HeaderRun::Contacts(kept), others)
 }
 
 /// The header lines with the contacts exchanged, and with another value in the first Via line, or
@@ -117,7 +117,7 @@ fn kept_runs<'a, A: Allocator>(
         [first, contacts, rest, top, after, last]
     } else {
         let (first, contacts, rest) = exchanged_runs(after, kept);
-        [HeaderRun::Kept(front), top, first, contacts, rest, last]
+        [kept_run(front), top, first, contacts, rest, last]
     }
 }
 

@@ -9,7 +9,7 @@ use Rattle.sip_via.specs.Edits.{line}
 use Rattle.sip_build.specs.declared.runs.Pick.{Pick}
 use Rattle.sip_build.specs.declared.runs.Pick.TheVariants.{Named, Others, Renamed}
 use Rattle.sip_build.specs.declared.runs.HeaderRun.{HeaderRun}
-use Rattle.sip_build.specs.declared.runs.HeaderRun.TheVariants.{NoLine, Kept, Picked, Line, Joined, Contacts, Challenges, Further, SeventyHops, NoBody, From, To, CallId}
+use Rattle.sip_build.specs.declared.runs.HeaderRun.TheVariants.{NoLine, Kept, Spelled, Picked, Line, Joined, Contacts, Challenges, Further, SeventyHops, NoBody, From, To, CallId}
 use Rattle.sip_build.specs.declared.made_text.Front.{Front}
 use Rattle.sip_build.specs.declared.made_text.Front.TheVariants.{Request, Response}
 use Rattle.sip_build.specs.SeenKept.{texts}
@@ -33,6 +33,7 @@ picked pick h = under h.value (picked_name pick h)
 abbrev pub lines_of : {A : Type 0} → HeaderRun A → List HeaderText
 lines_of NoLine = []
 lines_of (Kept hs) = views hs
+lines_of (Spelled spelled) = views spelled.lines
 lines_of (Picked hs pick) = flat_map (picked pick) (views hs)
 lines_of (Line name value) = line name.now value.now ∷ []
 lines_of (Joined name a b d) = line name.now (a.now ++ (b.now ++ d.now)) ∷ []

@@ -12,7 +12,8 @@ returns-in_default g c =
     ap (λ (v : List ℕ). line (codes "Max-Forwards") v ∷ (hs ++ [])) seventy
     ∙ ap (λ (xs : List HeaderText). line (codes "Max-Forwards") (codes "70") ∷ xs) (append-nil hs)
     ∙ sym (ap (λ (o : Option (List ℕ)). hops_lowered hs o) none) in
-    λ i. c.run_if_any-record_route.ensures i ++ lines i
+    let kept = ap (λ (xs : List HeaderText). line (codes "Max-Forwards") c.args.hops.now ∷ (xs ++ [])) c.kept_run-headers.ensures in
+    λ i. c.run_if_any-record_route.ensures i ++ (kept ∙ lines) i
 
 pub returns : goal.returns
 returns g c =

@@ -1,5 +1,5 @@
 use Rattle.sip_build.proofs.Common.{◌≡◌, ◌+◌, length, saturated, lines_text, views}
-use Rattle.sip_build.proofs.run_lens.each_len.Given as goal
+use Rattle.sip_build.proofs.run_lens.kept_len.Given as goal
 
 abbrev pub invariant-loop-line : goal.invariant-loop-line
 invariant-loop-line l = record {
