@@ -12,14 +12,29 @@ use proxy_service::Service;
 use service_admission::ServiceState;
 use sip_uri::Hop;
 use std::alloc::{Allocator, Global};
+use std::hint::spin_loop;
 use std::sync::Wait;
-use std::sync::atomic::{AtomicBool, Ordering};
+use std::sync::atomic::{AtomicU64, Ordering};
 use std::test::Fail;
-use std::thread::{Threads, join};
+use std::thread::{Threads, join, yield_now};
 use std::time::Clock;
 
 /// How often each is tried.
 const TRIES: u32 = 200;
+
+/// By how many turns of a loop the end comes later from one try to the next: so it falls into each part of the handling of a datagram.
+const TURNS: u32 = 100;
+
+/// How often a thread looks at most whether the other one is there.
+const WAITS: u32 = 100_000;
+
+/// How far two threads have come, so that both are at work at the same time: the one that ends the service is there; the datagram is being
+/// handed over; all is done. Before that it is 0.
+const THERE: u64 = 1;
+
+const COMING: u64 = 2;
+
+const DONE: u64 = 3;
 
 /// How often the thread that keeps the time looks at most.
 const LOOKS: u32 = 10_000_000;
@@ -96,43 +111,67 @@ impl<S: Raced> Port for Noting<'_, S> {
     }
 }
 
+/// Waits until two threads have come so far, for a while at most.
+fn wait_for(progress: &AtomicU64, least: u64) {
+    for _ in 0..WAITS {
+        if progress.load(Ordering::SeqCst) >= least {
+            return;
+        }
+        yield_now();
+    }
+}
+
+/// Lets a little time pass.
+fn pause(turns: u32) {
+    for _ in 0..turns {
+        spin_loop();
+    }
+}
+
 /// Hands a datagram to a service, says so once that is done, and answers how many datagrams were sent behind the end.
 fn late_sends<S: Raced, R: Wait + Clock>(
     rt: &R,
     service: &S,
     source: Hop,
     bytes: &[u8],
-    is_done: &AtomicBool,
+    progress: &AtomicU64,
 ) -> u32 {
     let mut port = Noting { service, late: 0 };
+    wait_for(progress, THERE);
+    progress.store(COMING, Ordering::SeqCst);
     service.hands(rt, &mut port, source, bytes);
-    is_done.store(true, Ordering::SeqCst);
+    progress.store(DONE, Ordering::SeqCst);
     port.late
 }
 
-/// Tells a service to end, and looks as the thread that keeps the time does, until it has ended or all is done.
-fn ends<S: Raced, R: Wait>(rt: &R, service: &S, is_done: &AtomicBool) {
+/// Tells a service to end, so many turns of a loop behind the datagram, and looks as the thread that keeps the time does, until it has ended or
+/// all is done.
+fn ends<S: Raced, R: Wait>(rt: &R, service: &S, progress: &AtomicU64, turns: u32) {
+    let _ = progress.compare_exchange(0, THERE, Ordering::SeqCst, Ordering::SeqCst);
+    wait_for(progress, COMING);
+    pause(turns);
     service.begins_end();
     for _ in 0..LOOKS {
         service.looks(rt);
-        if is_done.load(Ordering::SeqCst) || service.has_ended() {
+        if progress.load(Ordering::SeqCst) == DONE || service.has_ended() {
             return;
         }
     }
 }
 
-/// How many datagrams are sent behind the end of a service that is told to end while a datagram comes.
+/// How many datagrams are sent behind the end of a service that is told to end so many turns of a loop behind a datagram.
 fn late_at_once<S: Raced + Sync, R: Threads + Wait + Clock + Sync>(
     rt: &R,
     service: &S,
     source: Hop,
     bytes: &[u8],
+    turns: u32,
 ) -> u32 {
-    let is_done = AtomicBool::new(false);
+    let progress = AtomicU64::new(0);
     let (late, ()) = join(
         rt,
-        || late_sends(rt, service, source, bytes, &is_done),
-        || ends(rt, service, &is_done),
+        || late_sends(rt, service, source, bytes, &progress),
+        || ends(rt, service, &progress, turns),
     );
     late
 }
@@ -179,25 +218,33 @@ fn opened<R: Wait + Clock>(rt: &R, alloc: Global, service: &Service) -> Option<V
 }
 
 /// How many datagrams are sent behind the end of a service that is told to end while its last call is answered.
-fn late_answers<R: Threads + Wait + Clock + Sync>(rt: &R, alloc: Global) -> Option<u32> {
+fn late_answers<R: Threads + Wait + Clock + Sync>(
+    rt: &R,
+    alloc: Global,
+    turns: u32,
+) -> Option<u32> {
     let shared = new_service(alloc)?;
     let answer = opened(rt, alloc, &shared.service)?;
     service_is_shared(&shared);
-    Some(late_at_once(rt, &shared, BOB, answer.as_slice()))
+    Some(late_at_once(rt, &shared, BOB, answer.as_slice(), turns))
 }
 
 /// The same while an INVITE comes.
-fn late_requests<R: Threads + Wait + Clock + Sync>(rt: &R, alloc: Global) -> Option<u32> {
+fn late_requests<R: Threads + Wait + Clock + Sync>(
+    rt: &R,
+    alloc: Global,
+    turns: u32,
+) -> Option<u32> {
     let shared = new_service(alloc)?;
     let request = request_text(alloc, &INVITE, "").ok()?;
     service_is_shared(&shared);
-    Some(late_at_once(rt, &shared, CALLER, request.as_bytes()))
+    Some(late_at_once(rt, &shared, CALLER, request.as_bytes(), turns))
 }
 
 #[test]
 fn a_service_ends_behind_the_answer_that_it_owes(rt: HostRuntime) -> Result<(), Fail> {
-    for _ in 0..TRIES {
-        let late = late_answers(&rt, rt.alloc());
+    for number in 0..TRIES {
+        let late = late_answers(&rt, rt.alloc(), number * TURNS);
         holds(&rt, late == Some(0), "no answer goes up behind the end");
     }
     Ok(())
@@ -205,8 +252,8 @@ fn a_service_ends_behind_the_answer_that_it_owes(rt: HostRuntime) -> Result<(), 
 
 #[test]
 fn a_service_ends_behind_the_call_that_it_opens(rt: HostRuntime) -> Result<(), Fail> {
-    for _ in 0..TRIES {
-        let late = late_requests(&rt, rt.alloc());
+    for number in 0..TRIES {
+        let late = late_requests(&rt, rt.alloc(), number * TURNS);
         holds(&rt, late == Some(0), "no call is opened behind the end");
     }
     Ok(())

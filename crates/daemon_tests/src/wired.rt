@@ -126,16 +126,22 @@ fn pause_of<R: Clock>(rt: &R, agents: &Agents, call: &str) -> Option<u64> {
     Some(millis_of(began.elapsed(rt).ok()?))
 }
 
-/// Whether an INVITE is sent again half a second behind the first, whichever part of a second has passed then: never before, and not each
-/// time much later.
+/// INVITEs that are not answered, and how many milliseconds pass behind each. Where the first comes within a second of the proxy is not
+/// known; a proxy that looked at each whole second alone would send each of the others again after 0.9 seconds and more.
+const SILENT: [(&str, u64); 3] = [("silent", 20), ("mute", 650), ("quiet", 0)];
+
+/// Whether an INVITE is sent again half a second behind the first, whichever part of a second has passed then: never before, and of those
+/// that come later not each time much later.
 fn keeps_milliseconds<R: Clock>(rt: &R, agents: &Agents) -> bool {
     let mut is_prompt = false;
-    for call in ["silent", "mute", "quiet"] {
+    for (call, rest) in SILENT {
         match pause_of(rt, agents, call) {
-            Some(pause) if pause >= 400 => is_prompt = is_prompt || pause < 800,
+            Some(pause) if pause >= 400 => {
+                is_prompt = is_prompt || (pause < 800 && call != "silent");
+            }
             _ => return false,
         }
-        thread::sleep(rt, Duration::from_millis(150));
+        thread::sleep(rt, Duration::from_millis(rest));
     }
     is_prompt
 }
