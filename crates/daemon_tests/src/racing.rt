@@ -249,7 +249,7 @@ fn a_service_ends_behind_the_answer_that_it_owes(rt: HostRuntime) -> Result<(), 
 #[test]
 fn a_service_ends_behind_the_call_that_it_opens(rt: HostRuntime) -> Result<(), Fail> {
     for number in 0..TRIES {
-        let late = late_requests(&rt, rt.alloc(), number * TURNS);
+        let late = late_requests(&rt, rt.alloc(), number.saturating_mul(TURNS));
         holds(&rt, late == Some(0), "no call is opened behind the end");
     }
     Ok(())

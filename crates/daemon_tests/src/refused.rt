@@ -1,8 +1,10 @@
-//! A service that is refused memory: what becomes of a datagram, when it opens calls again, and when a call is looked at again.
+//! A service that is refused memory: what becomes of a datagram, when it opens calls again, when a call is looked at again, and when a service
+//! ends whose call owes an answer.
 use crate::holds::holds;
 use crate::played::{Moment, PLAIN, Played, Served, Turn};
 use crate::texts::{BOB, CALLER, CONFIGURATION, INVITE, OPTIONS, Request};
 use failing_allocator::Refusing;
+use service_admission::ServiceState;
 use std::alloc::Global;
 use std::sync::Wait;
 use std::time::Clock;
@@ -279,6 +281,98 @@ fn a_call_that_lacks_memory_is_tried_again(rt: HostRuntime) {
             && goes(&rt, &mut service, GOES_ON);
     }
     holds(&rt, goes_well, "after 10, 20 and 40 milliseconds");
+}
+
+// ---- an answer that is owed at the end
+
+/// A telephone rings, and the service is told to end.
+const RINGS: &[Moment] = &[
+    (0, Turn::Asks(INVITE)),
+    (
+        20,
+        Turn::Answers(BOB, "INVITE", "one", "SIP/2.0 180 Ringing"),
+    ),
+    (20, Turn::Skips),
+    (20, Turn::Stops(60)),
+];
+
+/// The telephone declines, when the two seconds are over in which the service answers that it ends.
+const DECLINES: &[Moment] = &[(
+    3_000,
+    Turn::Answers(BOB, "INVITE", "one", "SIP/2.0 486 Busy Here"),
+)];
+
+/// That went up.
+const GOES_UP: &[Moment] = &[(3_000, Turn::Sends(CALLER, "SIP/2.0 486 ", "one"))];
+
+/// It is as one that was lost on the way: the call stays open.
+const UNHEARD: &[Moment] = &[
+    (3_000, Turn::Counts("forkproxy_no_memory_total 1")),
+    (3_000, Turn::Ticks),
+    (3_000, Turn::SendsNothing),
+    (3_000, Turn::Is(ServiceState::Draining)),
+];
+
+/// The call has ended, and owes its answer: the service ends behind that.
+const OWED: &[Moment] = &[
+    (3_000, Turn::Counts("forkproxy_no_memory_total 0")),
+    (3_000, Turn::Ticks),
+    (3_000, Turn::SendsNothing),
+    (3_000, Turn::Is(ServiceState::Draining)),
+    (3_010, Turn::Ticks),
+    (3_010, Turn::Sends(CALLER, "SIP/2.0 486 ", "one")),
+    (3_010, Turn::Sends(BOB, "ACK ", "one")),
+    (3_010, Turn::SendsNothing),
+    (3_010, Turn::Is(ServiceState::Ended)),
+];
+
+/// What becomes of a telephone's answer for which memory ends.
+#[derive(Clone, Copy, PartialEq, Eq)]
+enum Heard {
+    Unheard,
+    Owed,
+    GoesUp,
+}
+
+/// What becomes of it where its growth of this number and all behind it are refused; None where the service does not go as it should.
+fn heard_before<R: Wait + Clock>(rt: &R, alloc: Global, growth: u64) -> Option<Heard> {
+    let heap = Refusing::new(alloc);
+    let mut service = scarce(alloc, &heap)?;
+    let rings = goes(rt, &mut service, RINGS);
+    heap.refuse_from(growth);
+    let declines = goes(rt, &mut service, DECLINES);
+    heap.refuse_none();
+    if !rings || !declines {
+        None
+    } else if goes(rt, &mut service, GOES_UP) {
+        Some(Heard::GoesUp)
+    } else if goes(rt, &mut service, UNHEARD) {
+        Some(Heard::Unheard)
+    } else if goes(rt, &mut service, OWED) {
+        Some(Heard::Owed)
+    } else {
+        None
+    }
+}
+
+/// At how many growths memory ends so that the answer is owed; None where a service does not go as it should.
+fn owed_at<R: Wait + Clock>(rt: &R, alloc: Global) -> Option<u64> {
+    let mut owed = 0u64;
+    for growth in 1..MOST_GROWTHS {
+        match heard_before(rt, alloc, growth)? {
+            Heard::Unheard => {}
+            Heard::Owed => owed = owed.saturating_add(1),
+            Heard::GoesUp => return Some(owed),
+        }
+    }
+    None
+}
+
+#[test]
+fn a_service_ends_behind_the_answer_that_a_call_owes_for_want_of_memory(rt: HostRuntime) {
+    let owed = owed_at(&rt, rt.alloc());
+    holds(&rt, owed.is_some(), "each growth of a 486");
+    holds(&rt, owed.unwrap_or(0) > 0, "the answer is owed at some");
 }
 
 // ---- a call that is over
