@@ -19,11 +19,7 @@ fn knows_what_stands_first(rt: HostRuntime) {
         is(skip_line_ends(b"\r\n\r\na\r\n"), b"a\r\n"),
         "the ends of lines in front go",
     );
-    holds(
-        &rt,
-        length_number(b"000000142") == Some(142),
-        "nine digits",
-    );
+    holds(&rt, length_number(b"000000142") == Some(142), "nine digits");
     holds(&rt, length_number(b"0000000142").is_none(), "ten digits");
 }
 

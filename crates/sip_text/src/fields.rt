@@ -2,7 +2,7 @@
 
 ghost use Rattle.std.specs.Prelude.{◌≡◌};
 ghost use Rattle.std.specs.Option.{option_copied};
-ghost use Rattle.sip_text.specs.Fields.{cseq_in, cseq_of, fits_start, has_method, message_cseq, says, value_of};
+ghost use Rattle.sip_text.specs.Fields.{cseq_in, cseq_of, fits_start, has_method, message_cseq, value_of};
 ghost use Rattle.sip_text.specs.Seen.{view_cseq, view_start, views};
 ghost use Rattle.sip_text.specs.inner.Seen.{seen_cseq};
 
@@ -10,7 +10,7 @@ use crate::header_lines::HeaderLines;
 use crate::name::HeaderValues;
 use crate::needed::MandatoryHeader;
 use crate::parts::{CSeqLine, StartLine};
-use sip_lex::{cut_at_space, is_token, length_number, read_number, trim_start};
+use sip_lex::{cut_at_space, is_token, read_number, trim_start};
 
 /// The value of the first header of that name.
 pub fn value_of<'a>(which: MandatoryHeader, headers: HeaderLines<'a>) -> Option<&'a [u8]>
@@ -74,13 +74,4 @@ pub enum BodyLength {
     Bytes(usize),
     /// One is no length, or two differ.
     Wrong,
-}
-
-pub fn says(n: usize, value: &[u8]) -> bool
-    ensures { result ≡ says n value.now }
-{
-    match length_number(value) {
-        None => false,
-        Some(m) => n == m,
-    }
 }

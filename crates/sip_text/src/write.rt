@@ -93,21 +93,6 @@ fn append_header<B: Allocator>(
     append_pieces(out, &[name, b": ", value, b"\r\n"])
 }
 
-/// Appends the empty line behind the headers and the body, or nothing.
-///
-/// # Errors
-///
-/// Only where the growth of `out` is refused; `out` is then unchanged.
-fn append_end<B: Allocator>(out: &mut Vec<u8, B>, body: &[u8]) -> Result<(), AllocError>
-    ensures ok { OnOk result (out.new.items ≡ out.old.items ++ (ended [] ++ body.now)) }
-    ensures err { OnErr result (out.new.items ≡ out.old.items) }
-    ensures room { vec_len out.old + length (ended [] ++ body.now) ≤ vec_capacity out.old → IsOk result }
-    ensures full { OnErr result (vec_capacity out.old < vec_len out.old + length (ended [] ++ body.now)) }
-    ensures capacity { vec_capacity out.old ≤ vec_capacity out.new }
-{
-    append_pieces(out, &[b"\r\n", body])
-}
-
 fn append_start<B: Allocator>(out: &mut Vec<u8, B>, start: StartLine<'_>) -> Result<(), AllocError>
     requires { is_start (view_start start) ≡ true }
     ensures ok { OnOk result
@@ -183,7 +168,7 @@ fn append_parts<B: Allocator>(
 {
     append_start(out, start)?;
     append_headers(out, headers)?;
-    append_end(out, body)
+    append_pieces(out, &[b"\r\n", body])
 }
 
 /// Appends a message of these parts, or nothing; `out` grows once at most.
