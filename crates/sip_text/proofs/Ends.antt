@@ -1,6 +1,6 @@
 -- What a text ends with, and what stands in it.
 use Rattle.sip_text.proofs.Common.{◌≡◌, ℕ, ◌-◌, ◌≤◌, Bool, List, [], ◌∷◌, ◌++◌, length, take, drop, Option, Some, None, refl, sym, ap, subst, ◌∙◌, append_assoc, arith, take-append-drop, cond_both, is_space, cut, common_steps, part_at}
-use Rattle.std.proofs.lemmas.List.{drop-drop, take_rest}
+use Rattle.std.proofs.lemmas.List.{drop-drop}
 use Rattle.sip_lex.specs.declared.place.PartPlace.{PartPlace}
 use Rattle.sip_text.specs.inner.Kept.{IsAt}
 use Rattle.sip_lex.specs.Places.{IsEnd, IsWithin, moved}

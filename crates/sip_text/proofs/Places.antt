@@ -1,9 +1,8 @@
 -- Parts of a text by their places.
-use Rattle.sip_text.proofs.Common.{◌≡◌, ℕ, zero, suc, ◌+◌, ◌-◌, ◌<◌, ◌≤◌, List, [], ◌∷◌, ◌++◌, length, take, drop, get_or, refl, sym, ap, subst, ◌∙◌, arith, common_steps}
+use Rattle.sip_text.proofs.Common.{◌≡◌, ℕ, zero, suc, ◌+◌, ◌<◌, ◌≤◌, List, [], ◌∷◌, ◌++◌, length, take, drop, get_or, refl, sym, ap, subst, ◌∙◌, arith, common_steps}
 use Rattle.sip_text.proofs.Common.{header_in, headers_in, part_at, start_in, valued_at, with_value_at, with_part_at, without_line_at, IsMessage, HeaderText, MessageText}
-use Rattle.std.proofs.Common.{min, slice_set}
+use Rattle.std.proofs.Common.{slice_set}
 use Rattle.std.specs.List.{remove}
-use Rattle.std.proofs.lemmas.List.{drop-drop, drop-take, take-take}
 use Rattle.sip_text.specs.declared.place.LinePlaces.{LinePlaces}
 use Rattle.sip_lex.specs.declared.place.PartPlace.{PartPlace}
 use Rattle.sip_text.specs.declared.place.StartPlaces.{StartPlaces}

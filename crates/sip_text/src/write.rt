@@ -1,6 +1,6 @@
 //! Writing a message, whole or part by part.
 
-ghost use Rattle.std.specs.Prelude.{◌≡◌, ◌+◌, ◌++◌, ◌≤◌, ◌<◌, ℕ, [], length, IsOk, OnOk, OnErr, take, true, vec_len, vec_capacity};
+ghost use Rattle.std.specs.Prelude.{◌≡◌, ◌+◌, ◌++◌, ◌≤◌, ◌<◌, ℕ, length, IsOk, OnOk, OnErr, take, true, vec_len, vec_capacity};
 ghost use Rattle.std.specs.List.{flat_map};
 ghost use Rattle.sip_lex.specs.Line.{ended};
 ghost use Rattle.sip_text.specs.Message.{is_start};
