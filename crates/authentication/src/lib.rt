@@ -26,7 +26,7 @@ pub use challenge::Challenger;
 pub use decision::{Arrival, CallAdmission, Decision, Rule, decision_of, is_for_registrar};
 pub use dialog::is_of_dialog;
 pub use domain::{Domain, is_of_domain};
-pub use form::{ContactParams, are_contact_params, form_of, is_named, param_named, param_value};
+pub use form::{ContactParams, param_named};
 pub use law::{requests_are_decided_in_one_way, strangers_open_nothing_else};
 pub use note::append_note;
 pub use own_credentials::is_taken_off;

@@ -3,8 +3,7 @@ ghost use Rattle.std.specs.Prelude.{◌≡◌, IfOk};
 ghost use Rattle.sip_uri.specs.Reading.{read_uri};
 ghost use Rattle.authentication.specs.Party.{is_anonymous, party_uri, uri_if_read};
 
-use crate::form::form_of;
-use sip_uri::{SipUri, UriFault};
+use sip_uri::{SipUri, UriFault, form_of};
 use std::alloc::{AllocError, Allocator};
 
 /// The URI that a text spells, if it spells one.

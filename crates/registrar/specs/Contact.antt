@@ -5,7 +5,7 @@ use Rattle.std.specs.Option.{option_map}
 use Rattle.std.specs.Str.{bytes_eq}
 use Rattle.sip_lex.specs.Bytes.{trim}
 use Rattle.sip_lex.specs.Cut.{cut, is}
-use Rattle.sip_lex.specs.Params.{value_of}
+use Rattle.sip_lex.specs.Params.{value_of, is_named}
 use Rattle.sip_uri.specs.declared.fault.UriFault.{UriFault}
 use Rattle.sip_uri.specs.declared.hop.Hop.{Hop}
 use Rattle.sip_uri.specs.declared.hop.Transport.{Transport}
@@ -16,7 +16,7 @@ use Rattle.sip_uri.specs.Key.{key_of}
 use Rattle.sip_uri.specs.Reading.{read_uri, uri_of}
 use Rattle.sip_uri.specs.Uri.{Uri, is_named as is_uri_param, params_text}
 use Rattle.sip_via.specs.Address.{address_text}
-use Rattle.authentication.specs.Form.{is_named, param_named}
+use Rattle.authentication.specs.Form.{param_named}
 use Rattle.authentication.specs.Tail.{port_of_uri}
 use Rattle.bindings.specs.Bindings.{Asked}
 use Rattle.registrar.specs.declared.expirations.AskedExpirations.{AskedExpirations}

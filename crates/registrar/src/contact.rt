@@ -2,22 +2,18 @@
 ghost use Rattle.std.specs.Prelude.{◌≡◌, ◌∷◌, ◌++◌, ◌-◌, ◌+◌, [], IfOk, OnOk, filter, length, take};
 ghost use Rattle.std.specs.List.{list_all};
 ghost use Rattle.std.specs.Option.{option_copied, option_map};
-ghost use Rattle.sip_uri.specs.Contact.{contact_params, q_of};
+ghost use Rattle.sip_uri.specs.Contact.{contact_params, q_of, seen_form};
 ghost use Rattle.sip_uri.specs.Reading.{read_uri, uri_of};
 ghost use Rattle.sip_uri.specs.Uri.{params_text};
-ghost use Rattle.authentication.specs.Form.{seen_form};
 ghost use Rattle.registrar.specs.Contact.{asked_at, asked_if_read, asked_of, asked_of_form, asked_over, front_of, hop_from, is_expires, is_kept, kept_text, shown_item, time_of, transport_of, value_named};
 ghost use Rattle.registrar.specs.SeenTerms.{seen_terms};
 
 use crate::asked::AskedContact;
 use crate::expirations::AskedExpirations;
 use crate::transport::transport_of;
-use crate::weight::q_of;
-use authentication::{
-    ContactParams, are_contact_params, form_of, is_named, param_named, param_value, port_of_uri,
-};
-use sip_lex::trim;
-use sip_uri::{Hop, SipUri, Transport, UriFault};
+use authentication::{ContactParams, param_named, port_of_uri};
+use sip_lex::{is_param_named, param_value, trim};
+use sip_uri::{Hop, SipUri, Transport, UriFault, are_contact_params, form_of, q_of};
 use sip_via::is_address;
 use std::alloc::{AllocError, Allocator};
 
@@ -39,7 +35,7 @@ pub(crate) struct ContactTerms<'a> {
 fn is_expires(param: &[u8]) -> bool
     ensures { result ≡ is_expires param.now }
 {
-    is_named(param, b"expires")
+    is_param_named(param, b"expires")
 }
 
 /// What stands before the parameters of an item.

@@ -16,7 +16,6 @@ mod outcome;
 mod shown;
 mod source;
 mod transport;
-mod weight;
 
 pub use asking::{Asking, Registrar, Registration, asking_of};
 pub use expirations::AskedExpirations;

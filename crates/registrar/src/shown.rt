@@ -9,7 +9,7 @@ use authentication::OwnAnswer;
 use bindings::{Binding, UserBindings};
 use httpdate::HttpDate;
 use sip_build::OwnStatus;
-use sip_lex::{append_decimal, is_space};
+use sip_lex::{append_decimal, begins_with_space};
 use std::alloc::{AllocError, Allocator};
 
 /// The seconds that are left until a moment, rounded up.
@@ -25,15 +25,6 @@ fn is_line(text: &[u8]) -> bool
 {
     text.iter()
         .all(|byte| !(*byte == b'\r') && !(*byte == b'\n'))
-}
-
-fn begins_with_space(text: &[u8]) -> bool
-    ensures { result ≡ begins_with_space text.now }
-{
-    match text {
-        [] => false,
-        [first, ..] => is_space(*first),
-    }
 }
 
 /// Whether an item may stand in a header line.

@@ -25,7 +25,8 @@ pub use Rattle.sip_text.specs.Fields.{cseq_in, cseq_of_cut, cseq_with, fits_star
 pub use Rattle.sip_text.specs.Message.{is_value}
 pub use Rattle.sip_text.specs.Name.{first_of, first_value, same_name, values_of}
 pub use Rattle.sip_text.specs.Seen.{view_line, view_lines, views}
-pub use Rattle.sip_text.specs.Text.{HeaderText, MessageText, Request, Response, StartText, header_text, pieces_text, saturated, start_line}
+pub use Rattle.sip_text.specs.Text.{HeaderText, MessageText, Request, Response, StartText, header_text, start_line}
+pub use Rattle.sip_lex.specs.Texts.{pieces_text, saturated}
 pub use Rattle.sip_uri.specs.Uri.{Uri, request_uri}
 pub use Rattle.sip_via.proofs.laws.Places.{replaced-split}
 pub use Rattle.sip_via.proofs.laws.PlainVia.{is-not}

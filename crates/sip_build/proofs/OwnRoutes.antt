@@ -3,7 +3,7 @@ use Rattle.sip_build.proofs.Common.{◌≡◌, ℕ, true, false, not, List, [], 
 use Rattle.std.proofs.Common.{reverse}
 use Rattle.sip_text.proofs.laws.Good.{and_both}
 use Rattle.sip_text.specs.Message.{is_line, is_trimmed}
-use Rattle.sip_text.specs.Reading.{begins_with_space}
+use Rattle.sip_lex.specs.Values.{begins_with_space}
 use Rattle.sip_via.specs.OwnVia.{IsOwn}
 use Rattle.sip_via.proofs.laws.Marked.{address-line, decimal-line, line-append}
 use Rattle.sip_via.proofs.laws.OwnVia.{IsEnd, end-behind}

@@ -2,7 +2,8 @@
 
 ghost use Rattle.std.specs.Prelude.{◌≡◌, ◌+◌, ◌++◌, ◌≤◌, ◌<◌, length, OnErr, OnOk, take, vec_capacity, vec_len};
 ghost use Rattle.sip_lex.specs.Line.{ended};
-ghost use Rattle.sip_text.specs.Text.{saturated, spelling, start_line};
+ghost use Rattle.sip_text.specs.Text.{spelling, start_line};
+ghost use Rattle.sip_lex.specs.Texts.{saturated};
 ghost use Rattle.sip_build.specs.inner.HeaderRuns.{IsFront, made_of, start_of, tail_text};
 
 use crate::runs::{HeaderRun, append_tail, tail_len};

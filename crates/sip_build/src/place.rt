@@ -1,7 +1,8 @@
 //! Bytes written at a place in a text that has room for them.
 
 ghost use Rattle.std.specs.Prelude.{◌+◌, ◌≤◌, ◌∷◌, [], length};
-ghost use Rattle.sip_text.specs.Text.{header_text, pieces_text};
+ghost use Rattle.sip_text.specs.Text.{header_text};
+ghost use Rattle.sip_lex.specs.Texts.{pieces_text};
 ghost use Rattle.sip_via.specs.Edits.{line};
 ghost use Rattle.sip_build.specs.inner.Placed.{Placed};
 

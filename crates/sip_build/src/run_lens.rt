@@ -5,7 +5,8 @@ ghost use Rattle.std.specs.Borrow.{Bor};
 ghost use Rattle.std.specs.List.{flat_map};
 ghost use Rattle.std.specs.Option.{option_copied};
 ghost use Rattle.sip_text.specs.Seen.{view_line, views};
-ghost use Rattle.sip_text.specs.Text.{header_text, pieces_text, saturated};
+ghost use Rattle.sip_text.specs.Text.{header_text};
+ghost use Rattle.sip_lex.specs.Texts.{saturated};
 ghost use Rattle.sip_via.specs.Edits.{line};
 ghost use Rattle.sip_build.specs.inner.HeaderRuns.{lines_of, picked, under};
 ghost use Rattle.sip_build.specs.inner.Texts.{lines_text};
@@ -14,19 +15,9 @@ ghost use Rattle.sip_build.specs.Upward.{challenge_line};
 use crate::challenges::challenge_name;
 use crate::runs::{HeaderRun, Pick, picked_name};
 use fork_rank::Challenge;
+use sip_lex::pieces_len;
 use sip_text::{HeaderLine, HeaderLines};
 use std::alloc::Allocator;
-
-/// How many bytes the pieces are.
-pub(crate) fn pieces_len(pieces: &[&[u8]]) -> usize
-    ensures { result ≡ saturated (length (pieces_text pieces.now)) }
-{
-    let mut len = 0usize;
-    for piece in pieces {
-        len = len.saturating_add(piece.len());
-    }
-    len
-}
 
 /// How many bytes a header line is.
 fn line_len(name: &[u8], value: &[u8]) -> usize

@@ -5,7 +5,8 @@ ghost use Rattle.std.specs.Borrow.{Bor};
 ghost use Rattle.std.specs.List.{flat_map};
 ghost use Rattle.std.specs.Option.{option_copied};
 ghost use Rattle.sip_text.specs.Seen.{view_line, views};
-ghost use Rattle.sip_text.specs.Text.{header_text, saturated};
+ghost use Rattle.sip_text.specs.Text.{header_text};
+ghost use Rattle.sip_lex.specs.Texts.{saturated};
 ghost use Rattle.sip_via.specs.Edits.{line, line_if_any};
 ghost use Rattle.sip_build.specs.inner.HeaderRuns.{lines_of, picked, picked_name, tail_text, under};
 ghost use Rattle.sip_build.specs.inner.Placed.{Placed};
@@ -14,9 +15,10 @@ ghost use Rattle.sip_build.specs.Upward.{challenge_line};
 
 use crate::challenges::challenge_name;
 use crate::place::{place, place_line, place_pieces};
-use crate::run_lens::{pieces_len, runs_len};
+use crate::run_lens::runs_len;
 use crate::spelled_lines::SpelledLines;
 use fork_rank::Challenge;
+use sip_lex::pieces_len;
 use sip_text::{HeaderLine, HeaderLines};
 use std::alloc::{AllocError, Allocator};
 

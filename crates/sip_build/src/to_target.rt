@@ -3,7 +3,8 @@
 
 ghost use Rattle.std.specs.Prelude.{◌≡◌, ◌+◌, ◌++◌, ◌≤◌, length, IsOk, OnErr, OnOk, take, vec_capacity, vec_len};
 ghost use Rattle.sip_lex.specs.Line.{ended};
-ghost use Rattle.sip_text.specs.Text.{Request, saturated, spelling, start_line};
+ghost use Rattle.sip_text.specs.Text.{Request, spelling, start_line};
+ghost use Rattle.sip_lex.specs.Texts.{saturated};
 ghost use Rattle.sip_uri.specs.Uri.{request_uri};
 ghost use Rattle.sip_build.specs.inner.HeaderRuns.{tail_text};
 ghost use Rattle.sip_build.specs.inner.ToTarget.{request_to};

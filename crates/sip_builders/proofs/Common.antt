@@ -30,7 +30,8 @@ pub use Rattle.sip_text.proofs.laws.Good.{and_both, found}
 pub use Rattle.sip_text.specs.Fields.{CSeqText, cseq_in, cseq_of, cseq_with, fits_start, length_name, message_cseq, said_by, value_of}
 pub use Rattle.sip_text.specs.Message.{IsMessage, fits_body, is_header, is_line, is_line_byte, is_start, is_trimmed, is_value}
 pub use Rattle.sip_text.specs.Name.{first_of, first_value, same_name}
-pub use Rattle.sip_text.specs.Reading.{begins_with_space, is_uri}
+pub use Rattle.sip_text.specs.Reading.{is_uri}
+pub use Rattle.sip_lex.specs.Values.{begins_with_space}
 pub use Rattle.sip_text.specs.Text.{HeaderText, MessageText, Request, Response, StartText}
 pub use Rattle.sip_text.specs.declared.needed.MandatoryHeader.TheVariants.{CSeq, CallId, From, To, Via}
 pub use Rattle.sip_uri.specs.Host.{IsHost, IsPort}

@@ -5,7 +5,7 @@ use Rattle.sip_builders.proofs.Common.{all-replaced, common_steps}
 use Rattle.std.proofs.Common.{ltb}
 use Rattle.std.specs.Char.{to_ascii_lowercase}
 use Rattle.sip_text.specs.Name.{full_name, values_of}
-use Rattle.sip_text.specs.Reading.{is_printed}
+use Rattle.sip_lex.specs.Bytes.{is_printed}
 use Rattle.sip_uri.specs.Grammar.{IsUri, is_uri_byte}
 use Rattle.sip_via.proofs.laws.OwnVia.{decimal-value}
 use Rattle.sip_via.proofs.laws.Replaced.{same-missing}

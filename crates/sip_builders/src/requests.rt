@@ -15,8 +15,9 @@ ghost use Rattle.sip_build.specs.Requests.{ack_of, along, cancel_of};
 
 use crate::written::read_written;
 use itoa::Buffer;
+use sip_lex::append_pieces;
 use sip_route::{first_value, request_uri};
-use sip_text::{Message, append_pieces, append_request_line};
+use sip_text::{Message, append_request_line};
 use sip_via::{BuildFault, top_via};
 use std::alloc::{AllocError, Allocator};
 

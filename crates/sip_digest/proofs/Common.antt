@@ -16,7 +16,7 @@ pub use Rattle.sip_lex.specs.Sheltered.{LacksOutside, cut_outside, end_place, pl
 pub use Rattle.sip_lex.specs.declared.sheltered.ShelterState.{ShelterState}
 pub use Rattle.sip_lex.specs.declared.sheltered.ShelterState.TheVariants.{Plain, Quoted, Escaped}
 pub use Rattle.sip_lex.specs.declared.sheltered.Shelter.TheVariants.{Quotes}
-pub use Rattle.sip_text.specs.Text.{pieces_text}
+pub use Rattle.sip_lex.specs.Texts.{pieces_text}
 pub use Rattle.sip_digest.specs.AuthParam.{AuthParam, HasNoElement, IsAuthValue, IsElement, IsListed, unescaped}
 pub use Rattle.sip_digest.specs.Credentials.{Credentials, IsOfRealm, Named, credentials_in, credentials_of, first_named, named_in}
 pub use Rattle.sip_digest.specs.inner.Reading.{behind_scheme, element_cut, first_or, followed, is_text, list_of_realm, param_of, read_element, read_elements, read_list, read_value, scheme_cut, whole_quoted, with_param}

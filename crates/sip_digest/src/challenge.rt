@@ -3,7 +3,7 @@ ghost use Rattle.std.specs.Prelude.{◌≡◌, ◌++◌, OnErr, OnOk};
 ghost use Rattle.sip_digest.specs.Challenge.{challenge_text, parts_text, stale_text};
 
 use crate::algorithm::Algorithm;
-use sip_text::append_pieces;
+use sip_lex::append_pieces;
 use std::alloc::{AllocError, Allocator};
 
 fn stale_text(stale: bool) -> &'static [u8]

@@ -3,7 +3,7 @@ ghost use Rattle.std.specs.Prelude.{◌≡◌};
 ghost use Rattle.hex.specs.Hex.{encode_lower};
 ghost use Rattle.md5.specs.Md5.{md5};
 ghost use Rattle.sha2.specs.Sha256.{sha256};
-ghost use Rattle.sip_text.specs.Text.{pieces_text};
+ghost use Rattle.sip_lex.specs.Texts.{pieces_text};
 ghost use Rattle.sip_digest.specs.declared.algorithm.Algorithm.TheVariants as algorithm;
 ghost use Rattle.sip_digest.specs.Algorithm.{digest_text};
 

@@ -6,7 +6,7 @@ ghost use Rattle.sip_digest.specs.Stamp.{IsGoodNonce, IsGoodToken, IsStamp, nonc
 use crate::digests::sha256_of;
 use crate::same::is_joined;
 use hex::{FromHex, encode_to_slice};
-use sip_text::append_pieces;
+use sip_lex::append_pieces;
 use std::alloc::{AllocError, Allocator};
 
 /// How many digits the second of a stamp has.

@@ -5,7 +5,7 @@ ghost use Rattle.sip_digest.specs.Secrets.{secrets_of};
 ghost use Rattle.sip_digest.specs.User.{digest_text, user_of, user_text};
 
 use crate::secrets::Secrets;
-use sip_text::append_pieces;
+use sip_lex::append_pieces;
 use std::alloc::{AllocError, Allocator};
 
 fn md5_text(secrets: &Secrets) -> &[u8]

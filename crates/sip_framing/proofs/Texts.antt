@@ -15,7 +15,8 @@ use Rattle.sip_lex.proofs.laws.Cuts.{cut_again}
 use Rattle.sip_lex.proofs.laws.Trims.{token_byte-space, token_bytes, trim_end-reverse, trim_start-none}
 use Rattle.sip_text.specs.declared.fields.BodyLength.{BodyLength}
 use Rattle.sip_text.specs.declared.fields.BodyLength.TheVariants as text
-use Rattle.sip_text.specs.Fields.{agreed as text_agreed, is_number, length_name, length_number, said_by, said_length, says}
+use Rattle.sip_text.specs.Fields.{agreed as text_agreed, is_number, length_name, said_by, said_length, says}
+use Rattle.sip_lex.specs.Number.{length_number}
 use Rattle.sip_text.specs.Grammar.{AreHeaders, IsBody, IsHeader, IsStartLine}
 use Rattle.sip_text.specs.Name.{full_name, name_of_letter, same_name, values_of}
 use Rattle.sip_text.specs.Text.{HeaderText, StartText, Request, Response}

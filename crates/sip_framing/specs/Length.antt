@@ -4,7 +4,7 @@ use Rattle.std.specs.Str.{bytes_eq, str_to_ascii_lowercase}
 use Rattle.sip_lex.specs.Bytes.{trim, trim_end}
 use Rattle.sip_lex.specs.Cut.{cut, is}
 use Rattle.sip_lex.specs.Values.{begins_with_space}
-use Rattle.sip_text.specs.Fields.{length_number}
+use Rattle.sip_lex.specs.Number.{length_number}
 use Rattle.sip_framing.specs.declared.length.SaidLength.{SaidLength}
 use Rattle.sip_framing.specs.declared.length.SaidLength.TheVariants.{Unsaid, Bytes, Wrong}
 use Rattle.sip_framing.specs.declared.length.Heard.{Heard}

@@ -1,10 +1,10 @@
 //! What header lines say of the length of the body (RFC 3261 section 20.14).
 ghost use Rattle.std.specs.Prelude.{◌≡◌, ◌≤◌};
 ghost use Rattle.sip_lex.specs.Values.{begins_with_space};
-ghost use Rattle.sip_text.specs.Fields.{length_number};
+ghost use Rattle.sip_lex.specs.Number.{length_number};
 ghost use Rattle.sip_framing.specs.Length.{agreed, heard_after, is_length_name, length_in, unheard};
 
-use sip_lex::{cut_at, is_space, read_number, trim, trim_end};
+use sip_lex::{begins_with_space, cut_at, length_number, trim, trim_end};
 
 /// What the Content-Length lines so far say.
 #[derive(Clone, Copy)]
@@ -27,33 +27,11 @@ pub struct Heard {
     pub said: SaidLength,
 }
 
-fn begins_with_space(text: &[u8]) -> bool
-    ensures { result ≡ begins_with_space text.now }
-{
-    match text {
-        [] => false,
-        [first, ..] => is_space(*first),
-    }
-}
-
 /// Whether a name is that of Content-Length, long or compact, in any case.
 fn is_length_name(name: &[u8]) -> bool
     ensures { result ≡ is_length_name name.now }
 {
     name.eq_ignore_ascii_case(b"content-length") || name.eq_ignore_ascii_case(b"l")
-}
-
-/// The number of one to nine digits.
-fn length_number(value: &[u8]) -> Option<usize>
-    ensures { result ≡ length_number value.now }
-{
-    if value.len() > 9 {
-        return None;
-    }
-    match read_number(value, 999_999_999) {
-        None => None,
-        Some(n) => Some(n as usize),
-    }
 }
 
 /// What a line says of the length, if it is a Content-Length.

@@ -1,6 +1,8 @@
 pub mod Bare
 pub mod Common
+pub mod Grown
 pub mod Numbers
+pub mod Parts
 pub mod Places
 pub mod Size
 pub mod Tags

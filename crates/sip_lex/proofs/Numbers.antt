@@ -1,9 +1,8 @@
 -- The number that digits spell only grows with further digits.
 use Rattle.sip_lex.proofs.Common.{◌≡◌, ℕ, ◌+◌, ◌<◌, ◌≤◌, List, [], ◌∷◌, length, take, drop, get_or, fold, None, arith, take-append-drop, cond-false, number, with_digit, below, le-ltb, common_steps}
 use Rattle.std.proofs.lemmas.List.Sums.{fold-append, fold_more}
-use Rattle.std.proofs.Common.{◌^◌, Bool, true, false, zero, suc, refl, sym, ap, ◌∙◌}
-use Rattle.std.proofs.lemmas.Bool.{and_parts, cases_Bool, false≢true}
-use Rattle.std.specs.Char.{is_ascii_digit}
+use Rattle.std.proofs.Common.{Bool, true, zero, suc}
+use Rattle.std.proofs.lemmas.Bool.{and_parts}
 use Rattle.std.specs.List.{list_all}
 use Rattle.sip_lex.specs.inner.Number.{number_if_digits, with_digit_if_one}
 

@@ -1,5 +1,5 @@
 -- Classes of bytes, and space at the ends of a text (RFC 3261 section 25.1).
-use Rattle.std.specs.Prelude.{ℕ, ◌-◌, Bool, ◌||◌, ◌&&◌, ◌==◌, List, [], ◌∷◌, length, take, drop, nat_lt}
+use Rattle.std.specs.Prelude.{ℕ, ◌-◌, Bool, ◌||◌, ◌&&◌, ◌==◌, List, [], ◌∷◌, length, take, drop, nat_le, nat_lt}
 use Rattle.std.specs.Char.{is_ascii_alphanumeric}
 use Rattle.std.specs.List.{list_all, list_any, prefix_len, suffix_len}
 
@@ -27,3 +27,7 @@ trim_end bs = take (length bs - suffix_len is_space bs) bs
 
 abbrev pub trim : List ℕ → List ℕ
 trim bs = trim_end (trim_start bs)
+
+-- a printed byte of ASCII other than space
+abbrev pub is_printed : ℕ → Bool
+is_printed b = nat_le 33 b && nat_le b 126

@@ -7,9 +7,11 @@ pub mod Number
 pub mod Outside
 pub mod Params
 pub mod Pieces
+pub mod Places
 pub mod Quoted
 pub mod Sheltered
 pub mod Short
 pub mod Tag
+pub mod Texts
 pub mod Values
 pub mod inner

@@ -1,5 +1,5 @@
 -- Lines that end in CRLF (RFC 3261 section 7).
-use Rattle.std.specs.Prelude.{ℕ, List, [], ◌∷◌, ◌++◌, Option, Some, None}
+use Rattle.std.specs.Prelude.{ℕ, ◌&&◌, ◌==◌, List, [], ◌∷◌, ◌++◌, Option, Some, None, if◌then◌else◌}
 use Rattle.std.specs.Borrow.{Bor}
 use Rattle.sip_lex.specs.Cut.{cut, is, Lacks}
 
@@ -36,3 +36,9 @@ line_at text = line_at_cut (cut (is 10) text)
 abbrev pub seen_line : Option (Bor (List ℕ) × Bor (List ℕ)) → Option (List ℕ × List ℕ)
 seen_line None = None
 seen_line (Some p) = Some (p.0.now, p.1.now)
+
+-- without the pairs of CR and LF at the front
+abbrev pub skip_line_ends : List ℕ → List ℕ
+skip_line_ends [] = []
+skip_line_ends (b ∷ []) = b ∷ []
+skip_line_ends (b ∷ c ∷ bs) = if b == 13 && c == 10 then skip_line_ends bs else b ∷ c ∷ bs

@@ -1,5 +1,5 @@
 -- Decimal numbers (1*DIGIT of RFC 3261 section 25.1).
-use Rattle.std.specs.Prelude.{ℕ, ◌+◌, ◌-◌, ◌*◌, Bool, false, ◌&&◌, List, [], ◌∷◌, length, fold, Option, Some, None, nat_lt, nat_le, ◌==◌, if◌then◌else◌}
+use Rattle.std.specs.Prelude.{ℕ, ◌+◌, ◌-◌, ◌*◌, ◌^◌, Bool, false, ◌&&◌, List, [], ◌∷◌, length, fold, Option, Some, None, nat_lt, nat_le, ◌==◌, if◌then◌else◌}
 use Rattle.std.specs.Char.{is_ascii_digit}
 use Rattle.std.specs.List.{list_all}
 
@@ -25,3 +25,7 @@ begins_with_zero (d ∷ ds) = d == 48
 -- the same without a leading zero, but for the one digit 0
 abbrev pub plain_number_within : ℕ → List ℕ → Option ℕ
 plain_number_within limit ds = if nat_lt 1 (length ds) && begins_with_zero ds then None else number_within limit ds
+
+-- the number of one to nine digits
+abbrev pub length_number : List ℕ → Option ℕ
+length_number value = if nat_le (length value) 9 then number_within (10 ^ 9 - 1) value else None

@@ -4,7 +4,7 @@ ghost use Rattle.std.specs.Prelude.{◌≡◌, IfOk};
 ghost use Rattle.std.specs.Char.{is_ascii_digit};
 ghost use Rattle.std.specs.List.{list_all};
 ghost use Rattle.std.specs.Str.{str_to_ascii_lowercase};
-ghost use Rattle.sip_lex.specs.Bytes.{is_space, is_token, is_token_byte, is_token_mark};
+ghost use Rattle.sip_lex.specs.Bytes.{is_printed, is_space, is_token, is_token_byte, is_token_mark};
 
 use std::alloc::{AllocError, Allocator};
 
@@ -50,6 +50,13 @@ pub fn are_digits(bytes: &[u8]) -> bool
     ensures { result ≡ list_all is_ascii_digit bytes.now }
 {
     bytes.iter().all(|byte| byte.is_ascii_digit())
+}
+
+/// Whether each byte of a text is a printed one of ASCII other than space, as in the empty text.
+pub fn are_printed(bytes: &[u8]) -> bool
+    ensures { result ≡ list_all is_printed bytes.now }
+{
+    bytes.iter().all(|b| 33 <= *b && *b <= 126)
 }
 
 /// A copy of a text with its ASCII letters in lower case.

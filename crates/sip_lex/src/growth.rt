@@ -1,6 +1,6 @@
-//! A list that grows by all of its new items, or by none.
+//! Lists that grow.
 
-ghost use Rattle.std.specs.Prelude.{◌≡◌, OnErr, OnOk, take, vec_capacity};
+ghost use Rattle.std.specs.Prelude.{◌≡◌, IfOk, OnErr, OnOk, take, vec_capacity};
 
 use std::alloc::{AllocError, Allocator};
 
@@ -20,4 +20,21 @@ pub fn whole_or_nothing<T: Drop, A: Allocator>(
         out.truncate(before);
     }
     done
+}
+
+/// A copy of a text with room for so many bytes behind it.
+///
+/// # Errors
+///
+/// Only where the allocator refuses.
+pub fn copy_with_room<A: Allocator + Clone>(
+    alloc: &A,
+    text: &[u8],
+    room: usize,
+) -> Result<Vec<u8, A>, AllocError>
+    ensures { IfOk result (λ copy. copy.items ≡ text.now) }
+{
+    let mut copy = Vec::with_capacity(alloc.clone()?, text.len().saturating_add(room))?;
+    copy.extend_from_slice(text)?;
+    Ok(copy)
 }

@@ -1,7 +1,8 @@
 //! Lines that end in CRLF.
 
 ghost use Rattle.std.specs.Prelude.{◌≡◌, ◌<◌, ◌++◌, ℕ, List, length, position, IfSome, IfNone};
-ghost use Rattle.sip_lex.specs.Line.{IsLine, ended, line_at, seen_line};
+ghost use Rattle.sip_lex.specs.Line.{IsLine, ended, line_at, seen_line, skip_line_ends};
+ghost use Rattle.sip_lex.specs.Places.{IsEnd};
 ghost use Rattle.sip_lex.specs.inner.LineEnds.{before_end, is_end};
 
 use memchr::memchr2;
@@ -47,4 +48,16 @@ pub fn first_line(text: &[u8]) -> Option<(&[u8], &[u8])>
     ensures shorter { IfSome result (λ p. length p.1.now < length text.now) }
 {
     line_at(text)
+}
+
+/// A text without the pairs of CR and LF at its front.
+pub fn skip_line_ends(text: &[u8]) -> &[u8]
+    ensures value { result.now ≡ skip_line_ends text.now }
+    ensures end { IsEnd text.now result.now }
+{
+    let mut rest = text;
+    while let [b'\r', b'\n', more @ ..] = rest {
+        rest = more;
+    }
+    rest
 }

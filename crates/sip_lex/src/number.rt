@@ -2,7 +2,7 @@
 
 ghost use Rattle.std.specs.Prelude.{◌≡◌, ◌^◌, ◌++◌, OnOk, OnErr};
 ghost use Rattle.std.specs.Fmt.{decimal};
-ghost use Rattle.sip_lex.specs.Number.{number_within, plain_number_within};
+ghost use Rattle.sip_lex.specs.Number.{length_number, number_within, plain_number_within};
 ghost use Rattle.sip_lex.specs.inner.Number.{number_if_digits, with_digit_if_one};
 
 use itoa::Buffer;
@@ -43,6 +43,19 @@ pub fn read_number(digits: &[u8], limit: u64) -> Option<u64>
     }
     let n = number_of(digits)?;
     (n <= limit).then_some(n)
+}
+
+/// The number of one to nine digits.
+pub fn length_number(value: &[u8]) -> Option<usize>
+    ensures { result ≡ length_number value.now }
+{
+    if value.len() > 9 {
+        return None;
+    }
+    match read_number(value, 999_999_999) {
+        None => None,
+        Some(n) => Some(n as usize),
+    }
 }
 
 /// The number that decimal digits without a leading zero spell, where it is at most `limit`. The

@@ -2,6 +2,7 @@
 
 ghost use Rattle.std.specs.Prelude.{◌≡◌};
 ghost use Rattle.sip_lex.specs.Bytes.{trim, trim_end, trim_start};
+ghost use Rattle.sip_lex.specs.Values.{begins_with_space};
 
 use crate::bytes::is_space;
 
@@ -32,4 +33,14 @@ pub fn trim(text: &[u8]) -> &[u8]
     ensures { result.now ≡ trim text.now }
 {
     trim_end(trim_start(text))
+}
+
+/// Whether a text begins with a space or a tab.
+pub fn begins_with_space(text: &[u8]) -> bool
+    ensures { result ≡ begins_with_space text.now }
+{
+    match text {
+        [] => false,
+        [first, ..] => is_space(*first),
+    }
 }

@@ -7,7 +7,8 @@ ghost use Rattle.sip_route.specs.RequestKey.{HaveSameKey, key_text, request_key}
 ghost use Rattle.sip_route.specs.inner.RequestKey.{IsSentBy};
 
 use itoa::Buffer;
-use sip_text::{Message, append_pieces};
+use sip_lex::append_pieces;
+use sip_text::Message;
 use sip_via::{Sender, sender_of, top_via};
 use std::alloc::{AllocError, Allocator};
 

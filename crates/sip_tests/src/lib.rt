@@ -19,6 +19,8 @@ mod lex;
 #[cfg(test)]
 mod lex_numbers;
 #[cfg(test)]
+mod lex_parts;
+#[cfg(test)]
 mod messages;
 #[cfg(test)]
 mod route_keys;

@@ -1,20 +1,13 @@
 -- What a text ends with, and what stands in it.
 use Rattle.sip_text.proofs.Common.{◌≡◌, ℕ, ◌-◌, ◌≤◌, Bool, List, [], ◌∷◌, ◌++◌, length, take, drop, Option, Some, None, refl, sym, ap, subst, ◌∙◌, append_assoc, arith, take-append-drop, cond_both, is_space, cut, common_steps, part_at}
-use Rattle.std.proofs.lemmas.List.{drop-drop, take_rest}
-use Rattle.sip_text.specs.declared.place.PartPlace.{PartPlace}
-use Rattle.sip_text.specs.inner.Kept.{IsAt, IsEnd, IsWithin, moved}
+use Rattle.std.proofs.lemmas.List.{drop-drop}
+use Rattle.sip_lex.specs.declared.place.PartPlace.{PartPlace}
+use Rattle.sip_text.specs.inner.Kept.{IsAt}
+use Rattle.sip_lex.specs.Places.{IsEnd, IsWithin, moved}
 use Rattle.sip_text.proofs.Places.{part_grown}
-
-pub end_later : (text end front rest : List ℕ) → end ≡ front ++ rest → IsEnd text end → IsEnd text rest
-end_later text end front rest e (before, is) = (before ++ front, is ∙ ap (λ (xs : List ℕ). before ++ xs) e ∙ sym (append_assoc before front rest))
 
 pub end_length : (text end : List ℕ) → IsEnd text end → length end ≤ length text
 end_length text end (front, is) = grind (arith, common_steps)
-
-pub end_dropped : (text end : List ℕ) (n : ℕ) → IsEnd text end → IsEnd text (take (length end - n) (drop n end))
-end_dropped text end n h =
-    let rest : take (length end - n) (drop n end) ≡ drop n end = take_rest end n in
-    end_later text end (take n end) (take (length end - n) (drop n end)) (sym (take-append-drop n end) ∙ ap (λ (xs : List ℕ). take n end ++ xs) (sym rest)) h
 
 pub take_whole : (xs : List ℕ) → take (length xs) xs ≡ xs
 take_whole xs = grind (arith, common_steps)

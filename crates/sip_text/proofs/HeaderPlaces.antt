@@ -10,8 +10,9 @@ use Rattle.std.proofs.lemmas.List.{reverse-reverse, map_push, take-take}
 use Rattle.sip_lex.proofs.laws.Cuts.{cut_again}
 use Rattle.sip_lex.proofs.laws.Trims.{token_lacks, trim_end-reverse, trim_end-token, trim_end-whole, trim_start-none, trim_start-whole}
 use Rattle.sip_text.specs.declared.place.LinePlaces.{LinePlaces}
-use Rattle.sip_text.specs.declared.place.PartPlace.{PartPlace}
-use Rattle.sip_text.specs.inner.Kept.{AreLinesWithin, IsAt, IsEnd, IsLineWithin, IsWithin, line_moved, moved}
+use Rattle.sip_lex.specs.declared.place.PartPlace.{PartPlace}
+use Rattle.sip_text.specs.inner.Kept.{AreLinesWithin, IsAt, IsLineWithin, line_moved}
+use Rattle.sip_lex.specs.Places.{IsEnd, IsWithin, moved}
 use Rattle.sip_text.proofs.Ends.{at_end, at_front, end_length, moved_part}
 use Rattle.sip_text.proofs.Places.{lines_alike, lines_room, part_grown}
 

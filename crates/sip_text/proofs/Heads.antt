@@ -1,13 +1,14 @@
 -- What was read where reading answered.
 use Rattle.sip_text.proofs.Common.{◌≡◌, ◌∙◌, ℕ, true, cond, List, Option, Some, None, Result, Ok, Err, ap, sym, cond-true, line_at, pieces, MandatoryHeader, cseq_fits, missing, said_length, after_headers, after_line, after_start, if_present, or_bad, BadCSeq}
-use Rattle.sip_text.proofs.Common.{Fault, Headers, headers_at, skip, start_of, HeaderText, StartText, arith}
+use Rattle.sip_text.proofs.Common.{Fault, Headers, headers_at, skip_line_ends, start_of, HeaderText, StartText, arith}
 use Rattle.sip_text.specs.Message.{body_at, checked, read_at}
 use Rattle.sip_text.proofs.Joins.{join_pieces}
 use Rattle.sip_text.proofs.Common.{◌-◌, ◌+◌, ◌≤◌, ◌++◌, [], ◌∷◌, append_assoc, cond-false, ended, false, join_with_byte, length, length-append, start_in, subst, take, BodyLength, Gives, MessageText}
 use Rattle.sip_text.specs.declared.fault.ReadFault.{ReadFault}
 use Rattle.sip_text.specs.declared.place.StartPlaces.{StartPlaces}
 use Rattle.sip_text.specs.declared.place.StartPlaces.TheVariants.{Request, Response}
-use Rattle.sip_text.specs.inner.Kept.{IsAt, IsEnd, IsStartWithin, IsWithin, start_moved}
+use Rattle.sip_text.specs.inner.Kept.{IsAt, IsStartWithin, start_moved}
+use Rattle.sip_lex.specs.Places.{IsEnd, IsWithin}
 use Rattle.sip_text.proofs.Ends.{at_end, end_length, moved_part, take_whole}
 use Rattle.sip_text.proofs.Common.{Bool, IsLine, Lacks, headers_in, part_at}
 use Rattle.sip_text.proofs.laws.Good.{headers_good}
@@ -15,7 +16,7 @@ use Rattle.sip_text.proofs.Spelled.{line_is}
 use Rattle.sip_text.proofs.StartLines.{start_found, start_line_good}
 use Rattle.sip_text.specs.declared.needed.MandatoryHeader.TheVariants.{CSeq}
 use Rattle.sip_text.specs.declared.place.LinePlaces.{LinePlaces}
-use Rattle.sip_text.specs.declared.place.PartPlace.{PartPlace}
+use Rattle.sip_lex.specs.declared.place.PartPlace.{PartPlace}
 use Rattle.sip_text.specs.Fields.{cseq_in, fits_start, value_of}
 use Rattle.sip_text.specs.Message.{IsHead}
 use Rattle.sip_text.proofs.HeaderPlaces.{part_kept}
@@ -30,7 +31,7 @@ pub checked_is : (s : StartText) (hs : List HeaderText) (rest : List ℕ) → mi
 unfolding checked
 checked_is s hs rest needed fits = ap (λ (x : Option MandatoryHeader). if_present x (cond (cseq_fits s hs) (body_at s hs rest (said_length hs)) (Err BadCSeq))) needed ∙ cond-true _ _ _ fits
 
-pub all_read : (text line rest behind : List ℕ) (s : StartText) (hs : List HeaderText) → Some (line, rest) ≡ line_at (skip text) → start_of line ≡ Ok s → or_bad (headers_at rest) ≡ Ok (hs, pieces 10 behind) → missing hs ≡ None → cseq_fits s hs ≡ true → read_at text ≡ body_at s hs behind (said_length hs)
+pub all_read : (text line rest behind : List ℕ) (s : StartText) (hs : List HeaderText) → Some (line, rest) ≡ line_at (skip_line_ends text) → start_of line ≡ Ok s → or_bad (headers_at rest) ≡ Ok (hs, pieces 10 behind) → missing hs ≡ None → cseq_fits s hs ≡ true → read_at text ≡ body_at s hs behind (said_length hs)
 unfolding read_at
 all_read text line rest behind s hs at start headers needed fits =
     ap after_line (sym at)
@@ -43,7 +44,7 @@ checked_wrong : (s : StartText) (hs : List HeaderText) (rest : List ℕ) → mis
 unfolding checked
 checked_wrong s hs rest needed fits = ap (λ (x : Option MandatoryHeader). if_present x (cond (cseq_fits s hs) (body_at s hs rest (said_length hs)) (Err BadCSeq))) needed ∙ cond-false _ _ _ fits
 
-pub wrong_read : (text line rest behind : List ℕ) (s : StartText) (hs : List HeaderText) → Some (line, rest) ≡ line_at (skip text) → start_of line ≡ Ok s → or_bad (headers_at rest) ≡ Ok (hs, pieces 10 behind) → missing hs ≡ None → cseq_fits s hs ≡ false → read_at text ≡ Err BadCSeq
+pub wrong_read : (text line rest behind : List ℕ) (s : StartText) (hs : List HeaderText) → Some (line, rest) ≡ line_at (skip_line_ends text) → start_of line ≡ Ok s → or_bad (headers_at rest) ≡ Ok (hs, pieces 10 behind) → missing hs ≡ None → cseq_fits s hs ≡ false → read_at text ≡ Err BadCSeq
 unfolding read_at
 wrong_read text line rest behind s hs at start headers needed fits =
     ap after_line (sym at)
@@ -90,7 +91,7 @@ gives_read text rest behind s t hs said r g same end is =
 pub record HeadRead (text begin line rest behind kept : List ℕ) (places : StartPlaces) (lines : List LinePlaces) : Type 0 where
   pub first : FirstAt text begin line rest
   pub is_line : IsLine line
-  pub at : Some (line, rest) ≡ line_at (skip text)
+  pub at : Some (line, rest) ≡ line_at (skip_line_ends text)
   pub start : start_of line ≡ Ok (start_in line places)
   pub within : IsStartWithin (length line) places
   pub begins : take (length text) kept ≡ text

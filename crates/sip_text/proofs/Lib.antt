@@ -2,7 +2,6 @@ pub mod Common
 pub mod Ends
 pub mod Gaps
 pub mod Groups
-pub mod Grown
 pub mod HeaderPlaces
 pub mod LinesWithin
 pub mod NamedValues

@@ -5,7 +5,8 @@ use Rattle.sip_text.proofs.Common.{zero, suc, ◌+◌, ◌<◌, get_or, header_i
 use Rattle.sip_text.specs.declared.found.Found.{Found}
 use Rattle.sip_text.specs.declared.place.LinePlaces.{LinePlaces}
 use Rattle.sip_text.specs.declared.needed.MandatoryHeader.TheVariants.{Via, From, To, CallId, CSeq}
-use Rattle.sip_text.specs.Fields.{agreed, length_name, length_number, needed_name, said_by, value_of}
+use Rattle.sip_text.specs.Fields.{agreed, length_name, needed_name, said_by, value_of}
+use Rattle.sip_lex.specs.Number.{length_number}
 use Rattle.sip_text.specs.Name.{first_of, full_name, values_of}
 use Rattle.sip_text.specs.inner.Found.{Finds, got, is_same, missing_of, put_first, said_then}
 

@@ -1,32 +1,14 @@
 -- Parts of a text by their places.
-use Rattle.sip_text.proofs.Common.{◌≡◌, ℕ, zero, suc, ◌+◌, ◌-◌, ◌<◌, ◌≤◌, List, [], ◌∷◌, ◌++◌, length, take, drop, get_or, refl, sym, ap, subst, ◌∙◌, arith, common_steps}
+use Rattle.sip_text.proofs.Common.{◌≡◌, ℕ, zero, suc, ◌+◌, ◌<◌, ◌≤◌, List, [], ◌∷◌, ◌++◌, length, take, drop, get_or, refl, sym, ap, subst, ◌∙◌, arith, common_steps}
 use Rattle.sip_text.proofs.Common.{header_in, headers_in, part_at, start_in, valued_at, with_value_at, with_part_at, without_line_at, IsMessage, HeaderText, MessageText}
-use Rattle.std.proofs.Common.{min, slice_set}
+use Rattle.std.proofs.Common.{slice_set}
 use Rattle.std.specs.List.{remove}
-use Rattle.std.proofs.lemmas.List.{drop-drop, drop-take, take-take}
 use Rattle.sip_text.specs.declared.place.LinePlaces.{LinePlaces}
-use Rattle.sip_text.specs.declared.place.PartPlace.{PartPlace}
+use Rattle.sip_lex.specs.declared.place.PartPlace.{PartPlace}
 use Rattle.sip_text.specs.declared.place.StartPlaces.{StartPlaces}
 use Rattle.sip_text.specs.declared.place.StartPlaces.TheVariants.{Request, Response}
-use Rattle.sip_text.specs.inner.Kept.{AreLinesWithin, IsKept, IsLineWithin, IsStartWithin, IsWithin, placed_message}
-
--- ---- a part of a part
-
-min_take : (m n : ℕ) (xs : List ℕ) → take (min m n) xs ≡ take m (take n xs)
-min_take m n xs = grind (arith, common_steps, take-take)
-
-skipped_part : (len skip start : ℕ) (text : List ℕ) → skip ≤ len → take (len - skip) (drop (start + skip) text) ≡ drop skip (take len (drop start text))
-skipped_part len skip start text h =
-    let rest = len - skip in
-    let sum : len ≡ skip + rest = omega arith in
-    sym (ap (take rest) (drop-drop skip start text)) ∙ sym (drop-take skip rest (drop start text)) ∙ ap (λ n. drop skip (take n (drop start text))) (sym sum)
-
--- where less is there than is skipped, nothing is left
-skipped_all : (len skip start : ℕ) (text : List ℕ) → len ≤ skip → take (len - len) (drop (start + len) text) ≡ drop skip (take len (drop start text))
-skipped_all len skip start text h = grind (arith, common_steps)
-
-pub part_of_part : (start len skip more skipped : ℕ) (text : List ℕ) → skipped ≡ min skip len → take (min more (len - skipped)) (drop (start + skipped) text) ≡ take more (drop skip (take len (drop start text)))
-part_of_part start len skip more skipped text e = grind (arith, min_take, skipped_part, skipped_all)
+use Rattle.sip_text.specs.inner.Kept.{AreLinesWithin, IsKept, IsLineWithin, IsStartWithin, placed_message}
+use Rattle.sip_lex.specs.Places.{IsWithin}
 
 -- ---- a text that grew
 

@@ -1,7 +1,7 @@
 -- Texts that are refused, by the relation and by the function.
 use Rattle.sip_text.proofs.Common.{◌≡◌, ◌≢◌, ℕ, ◌<◌, cond, eqb, List, [], ◌∷◌, ◌++◌, length, get_or, Option, Some, None, Result, Ok, Err, refl, sym, ap, subst, ◌∙◌, inl, inr, arith, ◌&&◌, join_with_byte, cases_Bool, cond_both}
 use Rattle.sip_text.proofs.Common.{cond-true, cond-false, false≢true, ended, line_at, pieces, line_at-again, line_at-takes, BodyLength, Bytes, Wrong, MandatoryHeader, cseq_fits, missing, said_length}
-use Rattle.sip_text.proofs.Common.{after_headers, after_line, after_start, head_of, if_present, Fault, BadStart, BadHeader, Lacks, BadVersion, BadStatus, Short, BadCSeq, BadLength, Headers, headers_at, skip, start_of, HasStartFault, HeaderText}
+use Rattle.sip_text.proofs.Common.{after_headers, after_line, after_start, head_of, if_present, Fault, BadStart, BadHeader, Lacks, BadVersion, BadStatus, Short, BadCSeq, BadLength, Headers, headers_at, skip_line_ends, start_of, HasStartFault, HeaderText}
 use Rattle.sip_text.proofs.Common.{MessageText, StartText}
 use Rattle.sip_text.specs.Message.{body_at, checked, read_at}
 use Rattle.sip_text.specs.Refusal.{Begins, FirstLine, HasFields, HasHead, HasHeaders, IsRefused}
@@ -24,25 +24,25 @@ no_fault m f P e = absurd cc
 
 -- ---- the first line
 
-skip_kept : (bs rest : List ℕ) → skip bs ≡ 13 ∷ 10 ∷ rest → ⊥
+skip_kept : (bs rest : List ℕ) → skip_line_ends bs ≡ 13 ∷ 10 ∷ rest → ⊥
 skip_kept [] rest h = absurd cc
 skip_kept (b ∷ []) rest h = absurd cc
 skip_kept (b ∷ c ∷ bs) rest h =
-    cond_both (eqb b 13 && eqb c 10) (skip bs) (b ∷ c ∷ bs) (λ (r : List ℕ). r ≡ 13 ∷ 10 ∷ rest → ⊥)
+    cond_both (eqb b 13 && eqb c 10) (skip_line_ends bs) (b ∷ c ∷ bs) (λ (r : List ℕ). r ≡ 13 ∷ 10 ∷ rest → ⊥)
     (λ e k. skip_kept bs rest k)
     (λ e k. let first : b ≡ 13 = ap (λ (x : List ℕ). get_or x 0 0) k in let second : c ≡ 10 = ap (λ (x : List ℕ). get_or x 1 0) k in false≢true (sym e ∙ ap (λ n. eqb n 13 && eqb c 10) first ∙ ap (λ n. eqb n 10) second))
     h
 
-not_empty : (text line rest : List ℕ) → skip text ≡ ended line ++ rest → line ≢ []
+not_empty : (text line rest : List ℕ) → skip_line_ends text ≡ ended line ++ rest → line ≢ []
 not_empty text line rest whole none = skip_kept text rest (whole ∙ ap (λ (x : List ℕ). ended x ++ rest) none)
 
-first_found : (text line rest : List ℕ) → line_at (skip text) ≡ Some (line, rest) → FirstLine text line rest
+first_found : (text line rest : List ℕ) → line_at (skip_line_ends text) ≡ Some (line, rest) → FirstLine text line rest
 first_found text line rest at =
-    let t = line_at-takes (skip text) line rest at in
+    let t = line_at-takes (skip_line_ends text) line rest at in
     let blank = skip_found text in
     grind (arith, not_empty)
 
-first_read : (text line rest : List ℕ) → FirstLine text line rest → line_at (skip text) ≡ Some (line, rest)
+first_read : (text line rest : List ℕ) → FirstLine text line rest → line_at (skip_line_ends text) ≡ Some (line, rest)
 first_read text line rest f = grind (arith, skip_blank, skip_line, line_at-again)
 
 -- ---- each fault has its cause
@@ -91,17 +91,17 @@ start_refused : (text line rest : List ℕ) (r : Result StartText Fault) (f : Fa
 start_refused text line rest (Ok start) f first at e = headers_refused text start rest (headers_at rest) f (record { line = line; first = first; start_is = start_found line start at }) refl e
 start_refused text line rest (Err g) f first at e = subst (IsRefused text) (same_fault g f e) (start_line_refused text line rest g first (fault_found line g at))
 
-line_refused : (text : List ℕ) (o : Option (List ℕ × List ℕ)) (f : Fault) → line_at (skip text) ≡ o → after_line o ≡ Err f → IsRefused text f
+line_refused : (text : List ℕ) (o : Option (List ℕ × List ℕ)) (f : Fault) → line_at (skip_line_ends text) ≡ o → after_line o ≡ Err f → IsRefused text f
 line_refused text None f at e = subst (IsRefused text) (same_fault BadStart f e) (λ line rest first. let wrong : None ≡ found (line, rest) = sym at ∙ first_read text line rest first in absurd cc)
 line_refused text (Some (line, rest)) f at e = start_refused text line rest (start_of line) f (first_found text line rest at) refl e
 
 pub refused_found : (text : List ℕ) (f : Fault) → read_at text ≡ Err f → IsRefused text f
 unfolding read_at
-refused_found text f e = line_refused text (line_at (skip text)) f refl e
+refused_found text f e = line_refused text (line_at (skip_line_ends text)) f refl e
 
 -- ---- and each cause gives its fault
 
-no_start_line : (text : List ℕ) (o : Option (List ℕ × List ℕ)) → IsRefused text BadStart → line_at (skip text) ≡ o → after_line o ≡ Err BadStart
+no_start_line : (text : List ℕ) (o : Option (List ℕ × List ℕ)) → IsRefused text BadStart → line_at (skip_line_ends text) ≡ o → after_line o ≡ Err BadStart
 no_start_line text None h at = refl
 no_start_line text (Some (line, rest)) h at = ap (λ (x : Result StartText Fault). after_start x rest) (fault_again line BadStart (h line rest (first_found text line rest at)))
 
@@ -140,7 +140,7 @@ body_short start hs rest n m fewer same = grind arith
 
 pub refused_again : (text : List ℕ) (f : Fault) → IsRefused text f → read_at text ≡ Err f
 unfolding read_at
-refused_again text BadStart h = no_start_line text (line_at (skip text)) h refl
+refused_again text BadStart h = no_start_line text (line_at (skip_line_ends text)) h refl
 refused_again text BadVersion h = first_again text h.0 h.1 BadVersion h.2 (fault_again h.0 BadVersion h.3)
 refused_again text BadStatus h = first_again text h.0 h.1 BadStatus h.2 (fault_again h.0 BadStatus h.3)
 refused_again text BadHeader h = begins_again text h.0 h.1 h.2 ∙ no_headers h.0 h.1 (headers_at h.1) h.3 refl

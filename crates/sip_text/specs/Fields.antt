@@ -1,11 +1,11 @@
 -- The headers that each message has, its CSeq and its Content-Length (RFC 3261 sections 8.1.1, 20.14
 -- and 20.16).
-use Rattle.std.specs.Prelude.{ℕ, ◌-◌, ◌^◌, Bool, true, false, List, [], ◌∷◌, length, Option, Some, None, is_none, nat_le, ◌==◌, if◌then◌else◌, codes}
+use Rattle.std.specs.Prelude.{ℕ, ◌-◌, ◌^◌, Bool, true, false, List, [], ◌∷◌, Option, Some, None, is_none, ◌==◌, if◌then◌else◌, codes}
 use Rattle.std.specs.List.{list_all}
 use Rattle.std.specs.Str.{bytes_eq}
 use Rattle.sip_lex.specs.Bytes.{is_space, is_token, trim_start}
 use Rattle.sip_lex.specs.Cut.{cut}
-use Rattle.sip_lex.specs.Number.{number_within}
+use Rattle.sip_lex.specs.Number.{length_number, number_within}
 use Rattle.sip_text.specs.declared.fields.BodyLength.{BodyLength}
 use Rattle.sip_text.specs.declared.fields.BodyLength.TheVariants.{Unsaid, Bytes, Wrong}
 use Rattle.sip_text.specs.declared.needed.MandatoryHeader.{MandatoryHeader}
@@ -80,10 +80,6 @@ cseq_fits start hs = fits_start start (message_cseq hs)
 
 abbrev pub length_name : List ℕ
 length_name = codes "content-length"
-
--- one to nine digits
-abbrev pub length_number : List ℕ → Option ℕ
-length_number value = if nat_le (length value) 9 then number_within (10 ^ 9 - 1) value else None
 
 abbrev pub is_number : ℕ → Option ℕ → Bool
 is_number n None = false

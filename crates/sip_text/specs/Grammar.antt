@@ -7,7 +7,8 @@ use Rattle.sip_lex.specs.Line.{IsLine, ended}
 use Rattle.sip_text.specs.declared.fields.BodyLength.{BodyLength}
 use Rattle.sip_text.specs.declared.fields.BodyLength.TheVariants.{Unsaid, Bytes, Wrong}
 use Rattle.sip_text.specs.Fields.{cseq_fits, missing, said_length}
-use Rattle.sip_text.specs.Reading.{begins_with_space, is_status, is_uri, is_version}
+use Rattle.sip_text.specs.Reading.{is_status, is_uri, is_version}
+use Rattle.sip_lex.specs.Values.{begins_with_space}
 use Rattle.sip_text.specs.Text.{HeaderText, MessageText, StartText, Request, Response, status_text}
 
 -- method, space, URI, space, version

@@ -10,4 +10,5 @@ pub mod Refusal
 pub mod Seen
 pub mod StartFaults
 pub mod Text
+pub mod Written
 pub mod inner

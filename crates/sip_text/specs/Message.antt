@@ -3,14 +3,14 @@
 use Rattle.std.specs.Prelude.{◌≡◌, ℕ, Bool, true, false, ◌&&◌, List, [], ◌∷◌, length, map, take, Option, Some, None, Result, Ok, Err, ◌==◌, nat_le, if◌then◌else◌}
 use Rattle.std.specs.List.{list_all, join_with_byte}
 use Rattle.sip_lex.specs.Bytes.{is_token}
-use Rattle.sip_lex.specs.Line.{line_at}
+use Rattle.sip_lex.specs.Line.{line_at, skip_line_ends}
 pub use Rattle.sip_lex.specs.Values.{is_line_byte, is_line, is_trimmed, is_value}
 use Rattle.sip_text.specs.declared.fields.BodyLength.{BodyLength}
 use Rattle.sip_text.specs.declared.fields.BodyLength.TheVariants.{Unsaid, Bytes, Wrong}
 use Rattle.sip_text.specs.Fields.{cseq_fits, length_name, missing, said_length}
 use Rattle.sip_text.specs.declared.needed.MandatoryHeader.{MandatoryHeader}
 use Rattle.sip_text.specs.Name.{same_name}
-use Rattle.sip_text.specs.Reading.{Fault, BadStart, BadHeader, Lacks, Short, BadCSeq, BadLength, Headers, headers_at, is_status, is_uri, skip, start_of}
+use Rattle.sip_text.specs.Reading.{Fault, BadStart, BadHeader, Lacks, Short, BadCSeq, BadLength, Headers, headers_at, is_status, is_uri, start_of}
 use Rattle.sip_text.specs.Text.{HeaderText, MessageText, StartText, Request, Response}
 
 -- ---- what a message is
@@ -75,4 +75,4 @@ after_line (Some (line, rest)) = after_start (start_of line) rest
 
 -- the start line, the header lines, and all else
 unfoldable pub read_at : List ℕ → Result MessageText Fault
-read_at text = after_line (line_at (skip text))
+read_at text = after_line (line_at (skip_line_ends text))

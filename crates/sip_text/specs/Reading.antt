@@ -1,13 +1,13 @@
 -- Reading the start line and the header lines, as functions (RFC 3261 sections 7.1 to 7.3).
-use Rattle.std.specs.Prelude.{ℕ, ◌+◌, ◌-◌, ◌*◌, Bool, ◌&&◌, List, [], ◌∷◌, ◌++◌, length, take, Option, Some, None, Result, Ok, Err, nat_lt, nat_le, ◌==◌, if◌then◌else◌, codes}
+use Rattle.std.specs.Prelude.{ℕ, ◌+◌, ◌-◌, ◌*◌, Bool, ◌&&◌, List, [], ◌∷◌, ◌++◌, length, take, Option, Some, None, Result, Ok, Err, nat_lt, nat_le, if◌then◌else◌, codes}
 use Rattle.std.specs.Char.{is_ascii_digit}
 use Rattle.std.specs.List.{list_all, flat_map}
 use Rattle.std.specs.Str.{bytes_eq, str_to_ascii_lowercase}
-use Rattle.sip_lex.specs.Bytes.{is_space, is_token, trim, trim_end}
+use Rattle.sip_lex.specs.Bytes.{is_printed, is_space, is_token, trim, trim_end}
 use Rattle.sip_lex.specs.Cut.{cut, is}
 use Rattle.sip_lex.specs.Line.{line_in}
 use Rattle.sip_lex.specs.Pieces.{pieces}
-pub use Rattle.sip_lex.specs.Values.{begins_with_space}
+use Rattle.sip_lex.specs.Values.{begins_with_space}
 use Rattle.sip_text.specs.Text.{HeaderText, StartText, Request, Response}
 use Rattle.sip_text.specs.declared.needed.MandatoryHeader.{MandatoryHeader}
 use Rattle.sip_text.specs.Text.{MessageText}
@@ -30,9 +30,6 @@ begins_with_sip text = bytes_eq (str_to_ascii_lowercase (take 4 text)) (codes "s
 
 abbrev pub is_version : List ℕ → Bool
 is_version text = bytes_eq (str_to_ascii_lowercase text) (codes "sip/2.0")
-
-abbrev pub is_printed : ℕ → Bool
-is_printed b = nat_le 33 b && nat_le b 126
 
 -- printed bytes, and one at least
 abbrev pub is_uri : List ℕ → Bool
@@ -162,9 +159,3 @@ closed (Some t) = headers_of_tail t.parts t
 -- the headers, and the pieces behind the empty line
 unfoldable pub headers_at : List ℕ → Option Headers
 headers_at text = closed (tail_at text)
-
--- pairs of CR and LF at the front are skipped
-abbrev pub skip : List ℕ → List ℕ
-skip [] = []
-skip (b ∷ []) = b ∷ []
-skip (b ∷ c ∷ bs) = if b == 13 && c == 10 then skip bs else b ∷ c ∷ bs

@@ -1,12 +1,12 @@
 -- What lies in memory, as texts.
-use Rattle.std.specs.Prelude.{ℕ, List, drop, map, take}
+use Rattle.std.specs.Prelude.{ℕ, List, map}
+use Rattle.sip_lex.specs.Places.{part_at}
 use Rattle.sip_text.specs.declared.header_lines.HeaderLines.{HeaderLines}
 use Rattle.sip_text.specs.declared.parts.CSeqLine.{CSeqLine}
 use Rattle.sip_text.specs.declared.parts.HeaderLine.{HeaderLine}
 use Rattle.sip_text.specs.declared.parts.StartLine.{StartLine}
 use Rattle.sip_text.specs.declared.parts.StartLine.TheVariants as starts
 use Rattle.sip_text.specs.declared.place.LinePlaces.{LinePlaces}
-use Rattle.sip_text.specs.declared.place.PartPlace.{PartPlace}
 use Rattle.sip_text.specs.declared.place.StartPlaces.{StartPlaces}
 use Rattle.sip_text.specs.declared.place.StartPlaces.TheVariants as places
 use Rattle.sip_text.specs.Text.{HeaderText, StartText, Request, Response}
@@ -26,10 +26,6 @@ abbrev pub view_cseq : CSeqLine → CSeqText
 view_cseq c = record { number = c.number; method = c.method.now }
 
 -- ---- by places in a text
-
--- the part of a text at a place, as far as the text goes
-abbrev pub part_at : List ℕ → PartPlace → List ℕ
-part_at text place = take place.len (drop place.start text)
 
 abbrev pub header_in : List ℕ → LinePlaces → HeaderText
 header_in text places = record { name = part_at text places.name; value = part_at text places.value }

@@ -1,6 +1,5 @@
 -- Messages as texts, and how they are spelled (RFC 3261 sections 7 and 25.1).
-use Rattle.std.specs.Prelude.{ℕ, ◌+◌, ◌-◌, ◌^◌, ◌/◌, ◌%◌, min, List, [], ◌∷◌, ◌++◌, Option, Some, None, codes}
-use Rattle.std.specs.Borrow.{Bor}
+use Rattle.std.specs.Prelude.{ℕ, ◌+◌, ◌/◌, ◌%◌, List, [], ◌∷◌, ◌++◌, Option, Some, None, codes}
 use Rattle.std.specs.List.{flat_map}
 use Rattle.sip_lex.specs.Line.{ended}
 
@@ -46,12 +45,3 @@ header_text h = ended (header_line h)
 -- what a message is written as
 abbrev pub spelling : MessageText → List ℕ
 spelling m = ended (start_line m.start) ++ (flat_map header_text m.headers ++ (ended [] ++ m.body))
-
--- ---- lengths, and texts in pieces
-
--- a length, as far as a word of 64 bits holds it
-abbrev pub saturated : ℕ → ℕ
-saturated n = min n (2 ^ 64 - 1)
-
-abbrev pub pieces_text : List (Bor (List ℕ)) → List ℕ
-pieces_text ps = flat_map (λ p. p.now) ps

@@ -2,5 +2,4 @@ pub mod Found
 pub mod Heads
 pub mod Kept
 pub mod Seen
-pub mod Written
 pub mod Within

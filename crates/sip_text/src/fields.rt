@@ -2,7 +2,7 @@
 
 ghost use Rattle.std.specs.Prelude.{◌≡◌};
 ghost use Rattle.std.specs.Option.{option_copied};
-ghost use Rattle.sip_text.specs.Fields.{cseq_in, cseq_of, fits_start, has_method, length_number, message_cseq, says, value_of};
+ghost use Rattle.sip_text.specs.Fields.{cseq_in, cseq_of, fits_start, has_method, message_cseq, value_of};
 ghost use Rattle.sip_text.specs.Seen.{view_cseq, view_start, views};
 ghost use Rattle.sip_text.specs.inner.Seen.{seen_cseq};
 
@@ -71,26 +71,7 @@ pub enum BodyLength {
     /// There is none.
     Unsaid,
     /// So many bytes.
-    Bytes(u64),
+    Bytes(usize),
     /// One is no length, or two differ.
     Wrong,
-}
-
-/// The number of one to nine digits.
-pub fn length_number(value: &[u8]) -> Option<u64>
-    ensures { result ≡ length_number value.now }
-{
-    if value.len() > 9 {
-        return None;
-    }
-    read_number(value, 999_999_999)
-}
-
-pub fn says(n: u64, value: &[u8]) -> bool
-    ensures { result ≡ says n value.now }
-{
-    match length_number(value) {
-        None => false,
-        Some(m) => n == m,
-    }
 }

@@ -9,12 +9,14 @@ ghost use Rattle.sip_text.specs.Name.{full_name, same_name};
 ghost use Rattle.sip_text.specs.Text.{HeaderText};
 ghost use Rattle.sip_text.specs.inner.Found.{Finds, got, is_length, is_needed, is_same, missing_of, put_first, said_then};
 ghost use Rattle.sip_text.specs.inner.Within.{AreLinesWithin, IsLineWithin};
-ghost use Rattle.sip_text.specs.Seen.{header_in, headers_in, part_at};
+ghost use Rattle.sip_text.specs.Seen.{header_in, headers_in};
+ghost use Rattle.sip_lex.specs.Places.{part_at};
 
-use crate::fields::{BodyLength, LENGTH_NAME, length_number, says};
+use crate::fields::{BodyLength, LENGTH_NAME};
 use crate::name::full_name;
 use crate::needed::MandatoryHeader;
-use crate::place::{LinePlaces, PartPlace, part_at, part_within};
+use crate::place::LinePlaces;
+use sip_lex::{PartPlace, length_number, part_at, part_within};
 
 /// Which of the fields that reading looks at a header line is.
 #[derive(Clone, Copy)]
@@ -106,19 +108,10 @@ fn first(found: Option<PartPlace>, value: PartPlace) -> Option<PartPlace>
 fn said_then(said: BodyLength, value: &[u8]) -> BodyLength
     ensures { result ≡ said_then said value.now }
 {
-    match said {
-        BodyLength::Wrong => BodyLength::Wrong,
-        BodyLength::Unsaid => match length_number(value) {
-            None => BodyLength::Wrong,
-            Some(n) => BodyLength::Bytes(n),
-        },
-        BodyLength::Bytes(n) => {
-            if says(n, value) {
-                said
-            } else {
-                BodyLength::Wrong
-            }
-        }
+    match (said, length_number(value)) {
+        (BodyLength::Unsaid, Some(n)) => BodyLength::Bytes(n),
+        (BodyLength::Bytes(n), Some(m)) => { if n == m { said } else { BodyLength::Wrong } }
+        _ => BodyLength::Wrong,
     }
 }
 

@@ -5,24 +5,19 @@ ghost use Rattle.sip_lex.specs.Bytes.{trim};
 ghost use Rattle.sip_lex.specs.Pieces.{pieces};
 ghost use Rattle.sip_text.specs.Fault.{Fails, Gives};
 ghost use Rattle.sip_text.specs.inner.Heads.{IsNamed, continued, front_header, or_bad, put, valued, with_part};
-ghost use Rattle.sip_text.specs.inner.Kept.{AreLinesWithin, IsAt, IsEnd, IsLineWithin, IsWithin};
-ghost use Rattle.sip_text.specs.Reading.{begins_with_space, header_of, headers_at, tail_at};
-ghost use Rattle.sip_text.specs.Seen.{header_in, headers_in, part_at};
+ghost use Rattle.sip_text.specs.inner.Kept.{AreLinesWithin, IsAt, IsLineWithin};
+ghost use Rattle.sip_lex.specs.Places.{IsEnd, IsWithin, part_at};
+ghost use Rattle.sip_text.specs.Reading.{header_of, headers_at, tail_at};
+ghost use Rattle.sip_lex.specs.Values.{begins_with_space};
+ghost use Rattle.sip_text.specs.Seen.{header_in, headers_in};
 
 use crate::fault::ReadFault;
-use crate::place::{LinePlaces, PartPlace, part_at, place_at_end};
-use crate::write::append_pieces;
-use sip_lex::{cut_near, cut_token, first_line, is_space, is_token, trim, trim_end, trim_start};
+use crate::place::LinePlaces;
+use sip_lex::{
+    PartPlace, append_pieces, begins_with_space, cut_near, cut_token, first_line, is_token,
+    part_at, place_at_end, trim, trim_end, trim_start,
+};
 use std::alloc::{AllocError, Allocator};
-
-fn begins_with_space(text: &[u8]) -> bool
-    ensures { result ≡ begins_with_space text.now }
-{
-    match text {
-        [] => false,
-        [first, ..] => is_space(*first),
-    }
-}
 
 /// The name of a header line, and what stands behind the colon, where space may stand between the two.
 fn spaced_name(line: &[u8]) -> Option<(&[u8], &[u8])>

@@ -17,10 +17,11 @@ pub struct HeaderLines<'a> {
 }
 
 impl<'a> HeaderLines<'a> {
-    ghost use Rattle.std.specs.Prelude.{◌≡◌, ◌≤◌, ◌∷◌, [], length, take, drop, IfNone, IfSome, option_map, slice_get, IsTrue, ◌↔◌};
+    ghost use Rattle.std.specs.Prelude.{◌≡◌, ◌≤◌, ◌∷◌, [], length, take, drop, IfNone, IfSome, option_map, slice_get, IsSome, IsTrue, ◌↔◌};
     ghost use Rattle.std.specs.List.{flat_map};
     ghost use Rattle.sip_text.specs.Seen.{headers_in, view_line, views};
     ghost use Rattle.sip_text.specs.Text.{header_text};
+    ghost use Rattle.sip_text.specs.Written.{StandAsWritten};
     ghost use Rattle.sip_text.specs.inner.Within.{AreLinesWithin};
 
     /// The header lines at such places within a text.
@@ -110,15 +111,13 @@ impl<'a> HeaderLines<'a> {
     /// written, and were not changed.
     #[tactic(auto, unfolding(crate::specs::Seen::views))]
     pub fn as_written(self) -> Option<&'a [u8]>
-        ensures { IfSome result (λ text. text.now ≡ flat_map header_text (views self.entry)) }
+        ensures text { IfSome result (λ text. text.now ≡ flat_map header_text (views self.entry)) }
+        ensures exact { IsSome result ↔ StandAsWritten self.entry }
     {
-        let start = match self.places {
-            [] => 0,
-            [first, ..] => first.name.start,
+        let [first, ..] = self.places else {
+            return Some(b"");
         };
-        if start > self.text.len() {
-            return None;
-        }
+        let start = first.name.start;
         let end = lines_end(self.text, start, self.places)?;
         Some(&self.text[start..end])
     }

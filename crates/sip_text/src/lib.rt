@@ -33,6 +33,4 @@ pub use method::Method;
 pub use name::HeaderValues;
 pub use needed::MandatoryHeader;
 pub use parts::{CSeqLine, HeaderLine, StartLine};
-pub use write::{
-    append_pieces, append_request_line, append_status_line, request_line_len, status_line_len,
-};
+pub use write::{append_request_line, append_status_line, request_line_len, status_line_len};

@@ -7,10 +7,10 @@ use crate::method::Method;
 use crate::name::HeaderValues;
 use crate::needed::MandatoryHeader;
 use crate::parts::{CSeqLine, StartLine};
-use crate::place::{LinePlaces, PartPlace, StartPlaces, part_at, start_in, start_within};
+use crate::place::{LinePlaces, StartPlaces, start_within};
 use crate::read::read_all;
 use crate::write::append_message;
-use sip_lex::tag_of;
+use sip_lex::{PartPlace, part_within, tag_of};
 use std::alloc::{AllocError, Allocator};
 use std::marker::Model;
 
@@ -189,7 +189,7 @@ impl<A: Allocator> Message<A> {
     pub fn body(&self) -> &[u8]
         ensures { result.now ≡ self.now.body }
     {
-        part_at(&self.text, self.body)
+        part_within(&self.text, self.body)
     }
 
     /// Puts another value in the place of the one of a header line, whose name stays. In a request it takes no memory as
@@ -255,9 +255,9 @@ impl<A: Allocator> Message<A> {
     {
         append_message(
             out,
-            start_in(&self.text, self.start),
+            start_within(&self.text, self.start),
             HeaderLines::new(&self.text, &self.lines),
-            part_at(&self.text, self.body),
+            part_within(&self.text, self.body),
         )
     }
 }

@@ -4,8 +4,9 @@ ghost use Rattle.std.specs.Prelude.{◌≡◌, ◌≤◌, ◌∷◌, [], IfOk, l
 ghost use Rattle.sip_text.specs.Fault.{Gives};
 ghost use Rattle.sip_text.specs.Fields.{said_length};
 ghost use Rattle.sip_text.specs.Message.{IsHead, body_at, head_of, read_at, zeroed};
-ghost use Rattle.sip_text.specs.inner.Kept.{AreLinesWithin, IsLineWithin, IsStartWithin, IsWithin};
-ghost use Rattle.sip_text.specs.Seen.{header_in, headers_in, part_at, start_in};
+ghost use Rattle.sip_text.specs.inner.Kept.{AreLinesWithin, IsLineWithin, IsStartWithin};
+ghost use Rattle.sip_lex.specs.Places.{IsWithin, part_at};
+ghost use Rattle.sip_text.specs.Seen.{header_in, headers_in, start_in};
 
 use crate::fault::ReadFault;
 use crate::fields::{BodyLength, LENGTH_NAME, cseq_fits};
@@ -13,9 +14,9 @@ use crate::found::found_in;
 use crate::head::headers_of;
 use crate::message::Message;
 use crate::name::same_name;
-use crate::place::{LinePlaces, PartPlace, StartPlaces, part_at, place_at_end, start_in};
-use crate::start::{skip, start_of};
-use sip_lex::first_line;
+use crate::place::{LinePlaces, StartPlaces, start_within};
+use crate::start::start_of;
+use sip_lex::{PartPlace, copy_with_room, first_line, part_within, place_at_end, skip_line_ends};
 use std::alloc::{AllocError, Allocator};
 
 /// A header line whose value is the one at a place, which is `0`, where it is a Content-Length.
@@ -26,7 +27,7 @@ fn zeroed(text: &[u8], line: LinePlaces, zero: PartPlace) -> LinePlaces
     ensures value { header_in text.now result ≡ zeroed (header_in text.now line) }
     ensures still { IsLineWithin (length text.now) result }
 {
-    if same_name(LENGTH_NAME, part_at(text, line.name)) {
+    if same_name(LENGTH_NAME, part_within(text, line.name)) {
         LinePlaces {
             name: line.name,
             value: zero,
@@ -117,7 +118,7 @@ fn body_of<A: Allocator>(
     match said {
         BodyLength::Wrong => Err(ReadFault::Length),
         BodyLength::Unsaid => Ok(Message::of_places(text, start, lines, rest)),
-        BodyLength::Bytes(n) => said_body(text, start, lines, rest, n as usize),
+        BodyLength::Bytes(n) => said_body(text, start, lines, rest, n),
     }
 }
 
@@ -135,37 +136,24 @@ fn room_of(start: StartPlaces) -> usize
     }
 }
 
-/// A copy of a text with so much room behind it.
-fn kept_text<A: Allocator + Clone>(
-    alloc: &A,
-    text: &[u8],
-    room: usize,
-) -> Result<Vec<u8, A>, AllocError>
-    ensures { IfOk result (λ kept. kept.items ≡ text.now) }
-{
-    let mut kept = Vec::with_capacity(alloc.clone()?, text.len().saturating_add(room))?;
-    kept.extend_from_slice(text)?;
-    Ok(kept)
-}
-
 /// The message that a text is.
 #[tactic(auto, unfolding(crate::specs::Message::read_at, crate::specs::Message::checked), using(crate::proofs::Joins::join_pieces))]
 pub fn read_all<A: Allocator + Clone>(alloc: &A, text: &[u8]) -> Result<Message<A>, ReadFault<A>>
     ensures { Gives (λ m. m) result (read_at text.now) }
 {
-    let begin = skip(text);
+    let begin = skip_line_ends(text);
     let Some((line, rest)) = first_line(begin) else {
         return Err(ReadFault::StartLine);
     };
     let places = start_of::<A>(line)?;
     let start = places.moved(text.len() - begin.len());
-    let mut kept = kept_text(alloc, text, room_of(start))?;
+    let mut kept = copy_with_room(alloc, text, room_of(start))?;
     let (lines, rest) = headers_of(alloc, &mut kept, text, rest)?;
     let found = found_in(&kept, &lines);
     if let Some(name) = found.missing() {
         return Err(ReadFault::Missing(name));
     }
-    if !cseq_fits(start_in(&kept, start), found.cseq(&kept)) {
+    if !cseq_fits(start_within(&kept, start), found.cseq(&kept)) {
         return Err(ReadFault::CSeq);
     }
     let said = found.length;

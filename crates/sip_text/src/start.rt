@@ -1,17 +1,17 @@
 //! The start line.
 
-ghost use Rattle.std.specs.Prelude.{◌≡◌, ◌≤◌, ◌==◌, ◌&&◌, IfOk, length};
-ghost use Rattle.std.specs.List.{list_all};
+ghost use Rattle.std.specs.Prelude.{◌≡◌, ◌≤◌, IfOk, length};
 ghost use Rattle.sip_lex.specs.Bytes.{is_space};
 ghost use Rattle.sip_lex.specs.Cut.{cut};
 ghost use Rattle.sip_text.specs.Fault.{Gives};
-ghost use Rattle.sip_text.specs.Reading.{after_uri, begins_with_sip, is_printed, is_uri, is_version, request_of, response_of, skip, start_of, status_of};
-ghost use Rattle.sip_text.specs.inner.Kept.{IsAt, IsEnd, IsStartWithin};
+ghost use Rattle.sip_text.specs.Reading.{after_uri, begins_with_sip, is_uri, is_version, request_of, response_of, start_of, status_of};
+ghost use Rattle.sip_text.specs.inner.Kept.{IsAt, IsStartWithin};
+ghost use Rattle.sip_lex.specs.Places.{IsEnd};
 ghost use Rattle.sip_text.specs.Seen.{start_in};
 
 use crate::fault::ReadFault;
-use crate::place::{PartPlace, StartPlaces, place_at_end};
-use sip_lex::{cut_at_space, is_space, is_token};
+use crate::place::StartPlaces;
+use sip_lex::{PartPlace, are_printed, cut_at_space, is_space, is_token, place_at_end};
 use std::alloc::Allocator;
 
 fn begins_with_sip(text: &[u8]) -> bool
@@ -31,12 +31,6 @@ fn is_version(text: &[u8]) -> bool
     ensures { result ≡ is_version text.now }
 {
     text.eq_ignore_ascii_case(b"sip/2.0")
-}
-
-fn are_printed(bytes: &[u8]) -> bool
-    ensures { result ≡ list_all is_printed bytes.now }
-{
-    bytes.iter().all(|b| 33 <= *b && *b <= 126)
 }
 
 fn is_uri(bytes: &[u8]) -> bool
@@ -136,16 +130,4 @@ pub fn start_of<A: Allocator>(line: &[u8]) -> Result<StartPlaces, ReadFault<A>>
     } else {
         request_of(line)
     }
-}
-
-/// Skips pairs of CR and LF.
-pub fn skip(text: &[u8]) -> &[u8]
-    ensures value { result.now ≡ skip text.now }
-    ensures end { IsEnd text.now result.now }
-{
-    let mut rest = text;
-    while let [b'\r', b'\n', more @ ..] = rest {
-        rest = more;
-    }
-    rest
 }

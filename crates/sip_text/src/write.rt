@@ -1,59 +1,17 @@
 //! Writing a message, whole or part by part.
 
-ghost use Rattle.std.specs.Prelude.{◌≡◌, ◌+◌, ◌++◌, ◌≤◌, ◌<◌, ℕ, [], length, IsOk, OnOk, OnErr, take, true, vec_len, vec_capacity};
+ghost use Rattle.std.specs.Prelude.{◌≡◌, ◌+◌, ◌++◌, ◌≤◌, ◌<◌, ℕ, length, IsOk, OnOk, OnErr, take, true, vec_len, vec_capacity};
 ghost use Rattle.std.specs.List.{flat_map};
 ghost use Rattle.sip_lex.specs.Line.{ended};
 ghost use Rattle.sip_text.specs.Message.{is_start};
-ghost use Rattle.sip_text.specs.Text.{Request, Response, header_text, pieces_text, saturated, spelling, start_line, status_text};
+ghost use Rattle.sip_text.specs.Text.{Request, Response, header_text, spelling, start_line, status_text};
+ghost use Rattle.sip_lex.specs.Texts.{saturated};
 ghost use Rattle.sip_text.specs.Seen.{view_start, views};
 
 use crate::header_lines::HeaderLines;
 use crate::parts::StartLine;
-use sip_lex::whole_or_nothing;
+use sip_lex::{append_pieces, pieces_len, whole_or_nothing};
 use std::alloc::{AllocError, Allocator};
-
-fn append_each<B: Allocator>(out: &mut Vec<u8, B>, pieces: &[&[u8]]) -> Result<(), AllocError>
-    ensures ok { OnOk result (out.new.items ≡ out.old.items ++ pieces_text pieces.now) }
-    ensures begins { take (vec_len out.old) out.new.items ≡ out.old.items }
-    ensures full { OnErr result
-        (vec_capacity out.old < vec_len out.old + length (pieces_text pieces.now)) }
-    ensures capacity { vec_capacity out.old ≤ vec_capacity out.new }
-{
-    for piece in pieces {
-        out.extend_from_slice(piece)?;
-    }
-    Ok(())
-}
-
-/// How many bytes the pieces are.
-fn len_of(pieces: &[&[u8]]) -> usize
-    ensures { result ≡ saturated (length (pieces_text pieces.now)) }
-{
-    let mut len = 0usize;
-    for piece in pieces {
-        len = len.saturating_add(piece.len());
-    }
-    len
-}
-
-/// Appends texts one behind the other, or nothing; `out` grows once at most.
-///
-/// # Errors
-///
-/// Only where the growth of `out` is refused; `out` is then unchanged.
-pub fn append_pieces<B: Allocator>(out: &mut Vec<u8, B>, pieces: &[&[u8]]) -> Result<(), AllocError>
-    ensures ok { OnOk result (out.new.items ≡ out.old.items ++ pieces_text pieces.now) }
-    ensures err { OnErr result (out.new.items ≡ out.old.items) }
-    ensures room { vec_len out.old + length (pieces_text pieces.now) ≤ vec_capacity out.old → IsOk result }
-    ensures full { OnErr result
-        (vec_capacity out.old < vec_len out.old + length (pieces_text pieces.now)) }
-    ensures capacity { vec_capacity out.old ≤ vec_capacity out.new }
-{
-    out.reserve(len_of(pieces))?;
-    let before = out.len();
-    let done = append_each(out, pieces);
-    whole_or_nothing(out, before, done)
-}
 
 /// Appends a request line with its end, or nothing (RFC 3261 section 7.1).
 ///
@@ -135,21 +93,6 @@ fn append_header<B: Allocator>(
     append_pieces(out, &[name, b": ", value, b"\r\n"])
 }
 
-/// Appends the empty line behind the headers and the body, or nothing.
-///
-/// # Errors
-///
-/// Only where the growth of `out` is refused; `out` is then unchanged.
-fn append_end<B: Allocator>(out: &mut Vec<u8, B>, body: &[u8]) -> Result<(), AllocError>
-    ensures ok { OnOk result (out.new.items ≡ out.old.items ++ (ended [] ++ body.now)) }
-    ensures err { OnErr result (out.new.items ≡ out.old.items) }
-    ensures room { vec_len out.old + length (ended [] ++ body.now) ≤ vec_capacity out.old → IsOk result }
-    ensures full { OnErr result (vec_capacity out.old < vec_len out.old + length (ended [] ++ body.now)) }
-    ensures capacity { vec_capacity out.old ≤ vec_capacity out.new }
-{
-    append_pieces(out, &[b"\r\n", body])
-}
-
 fn append_start<B: Allocator>(out: &mut Vec<u8, B>, start: StartLine<'_>) -> Result<(), AllocError>
     requires { is_start (view_start start) ≡ true }
     ensures ok { OnOk result
@@ -225,7 +168,7 @@ fn append_parts<B: Allocator>(
 {
     append_start(out, start)?;
     append_headers(out, headers)?;
-    append_end(out, body)
+    append_pieces(out, &[b"\r\n", body])
 }
 
 /// Appends a message of these parts, or nothing; `out` grows once at most.
@@ -256,21 +199,21 @@ pub fn append_message<B: Allocator>(
 pub fn request_line_len(method: &[u8], uri: &[u8]) -> usize
     ensures { result ≡ saturated (length (ended (start_line (Request method.now uri.now)))) }
 {
-    len_of(&[method, b" ", uri, b" SIP/2.0\r\n"])
+    pieces_len(&[method, b" ", uri, b" SIP/2.0\r\n"])
 }
 
 /// How many bytes a status line with this reason is with its end.
 pub fn status_line_len(reason: &[u8]) -> usize
     ensures { (status : ℕ) → result ≡ saturated (length (ended (start_line (Response status reason.now)))) }
 {
-    len_of(&[b"SIP/2.0 200 ", reason, b"\r\n"])
+    pieces_len(&[b"SIP/2.0 200 ", reason, b"\r\n"])
 }
 
 /// How many bytes a header line is with its end.
 fn header_len(name: &[u8], value: &[u8]) -> usize
     ensures { result ≡ saturated (length (header_text (record { name = name.now; value = value.now }))) }
 {
-    len_of(&[name, b": ", value, b"\r\n"])
+    pieces_len(&[name, b": ", value, b"\r\n"])
 }
 
 /// How many bytes header lines are with their ends.
@@ -300,5 +243,5 @@ fn message_len(start: StartLine<'_>, headers: HeaderLines<'_>, body: &[u8]) -> u
 {
     start_len(start)
         .saturating_add(headers_len(headers))
-        .saturating_add(len_of(&[b"\r\n", body]))
+        .saturating_add(pieces_len(&[b"\r\n", body]))
 }

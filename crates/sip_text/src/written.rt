@@ -1,11 +1,11 @@
 //! Header lines that stand in a text as they are written.
 
-ghost use Rattle.std.specs.Prelude.{◌≡◌, ◌≤◌, length, slice_range, IfSome};
+ghost use Rattle.std.specs.Prelude.{◌≡◌, ◌≤◌, length, slice_range, IfNone, IfSome};
 ghost use Rattle.std.specs.List.{flat_map};
 ghost use Rattle.sip_text.specs.Seen.{headers_in};
 ghost use Rattle.sip_text.specs.Text.{header_text};
+ghost use Rattle.sip_text.specs.Written.{AreWritten, IsWritten, line_end};
 ghost use Rattle.sip_text.specs.inner.Within.{AreLinesWithin, IsLineWithin};
-ghost use Rattle.sip_text.specs.inner.Written.{IsWritten};
 
 use crate::place::LinePlaces;
 
@@ -13,7 +13,9 @@ use crate::place::LinePlaces;
 #[tactic(auto, using(crate::proofs::SpelledLines::is_written))]
 fn written_end(text: &[u8], at: usize, line: LinePlaces) -> Option<usize>
     requires { IsLineWithin (length text.now) line }
-    ensures { IfSome result (λ end. IsWritten text.now at line end) }
+    ensures end { IfSome result (λ end. end ≡ line_end line) }
+    ensures written { IfSome result (λ _. IsWritten text.now at line) }
+    ensures none { IfNone result (IsWritten text.now at line → ⊥) }
 {
     let name = line.name.start + line.name.len;
     let value = line.value.start;
@@ -38,7 +40,9 @@ pub fn lines_end(text: &[u8], at: usize, lines: &[LinePlaces]) -> Option<usize>
     requires within { AreLinesWithin (length text.now) lines.now }
     ensures ordered { IfSome result (λ end. at ≤ end) }
     ensures within { IfSome result (λ end. end ≤ length text.now) }
-    ensures written { IfSome result (λ end. slice_range text.now at end ≡ flat_map header_text (headers_in text.now lines.now)) }
+    ensures spelled { IfSome result (λ end. slice_range text.now at end ≡ flat_map header_text (headers_in text.now lines.now)) }
+    ensures written { IfSome result (λ _. AreWritten text.now at lines.now) }
+    ensures none { IfNone result (AreWritten text.now at lines.now → ⊥) }
 {
     let mut end = at;
     let mut rest = lines;

@@ -1,7 +1,9 @@
 -- The items of a Contact value (RFC 3261 sections 20.10 and 25.1).
 use Rattle.std.specs.Prelude.{ℕ, ◌+◌, ◌-◌, ◌*◌, Bool, ◌||◌, ◌&&◌, not, List, [], ◌∷◌, length, map, Option, Some, None, Result, Ok, Err, is_some, nat_lt, nat_le, ◌==◌, if◌then◌else◌, codes}
+use Rattle.std.specs.Borrow.{Bor}
 use Rattle.std.specs.Char.{is_ascii_digit}
 use Rattle.std.specs.List.{list_all}
+use Rattle.std.specs.Option.{option_copied}
 use Rattle.std.specs.Str.{bytes_eq, str_to_ascii_lowercase}
 use Rattle.sip_lex.specs.declared.sheltered.Shelter.TheVariants.{Quotes, QuotesAndAngles}
 use Rattle.sip_lex.specs.declared.sheltered.ShelterState.TheVariants.{Plain}
@@ -98,6 +100,11 @@ form_behind item (Some inner) = bracketed_form (cut (is 62) inner)
 
 abbrev pub form_of : List ℕ → Option Form
 form_of item = form_behind item (cut_outside Quotes 60 Plain item).1
+
+-- the same in memory, as lists
+abbrev pub seen_form : Option (Bor (List ℕ) × Option (Bor (List ℕ))) → Option Form
+seen_form None = None
+seen_form (Some p) = Some (p.0.now, option_copied p.1)
 
 -- ---- items
 

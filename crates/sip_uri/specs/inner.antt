@@ -4,5 +4,4 @@ pub mod Host
 pub mod Key
 pub mod Progress
 pub mod Seen
-pub mod SeenContact
 pub mod Tail

@@ -6,12 +6,11 @@ ghost use Rattle.sip_lex.specs.declared.sheltered.Shelter.TheVariants.{QuotesAnd
 ghost use Rattle.sip_lex.specs.declared.sheltered.ShelterState.TheVariants.{Plain};
 ghost use Rattle.sip_lex.specs.Cut.{seen_cut};
 ghost use Rattle.sip_lex.specs.Sheltered.{cut_outside};
-ghost use Rattle.sip_uri.specs.Contact.{ContactText, are_items, contact_of, contact_of_form, contacts_of, items_behind, takeable};
+ghost use Rattle.sip_uri.specs.Contact.{ContactText, are_items, contact_of, contact_of_form, contacts_of, items_behind, takeable, seen_form};
 ghost use Rattle.sip_uri.specs.Fault.{Gives, refusal};
 ghost use Rattle.sip_uri.specs.Items.{AreItems, IsContact, texts};
 ghost use Rattle.sip_uri.specs.Reading.{read_uri};
 ghost use Rattle.sip_uri.specs.SeenContact.{view_contact, view_contacts};
-ghost use Rattle.sip_uri.specs.inner.SeenContact.{seen_form};
 ghost use Rattle.sip_lex.specs.Values.{is_line, is_value};
 
 use crate::fault::UriFault;

@@ -7,10 +7,12 @@ ghost use Rattle.sip_lex.specs.declared.sheltered.Shelter.TheVariants.{Quotes, Q
 ghost use Rattle.sip_lex.specs.declared.sheltered.ShelterState.TheVariants.{Plain};
 ghost use Rattle.sip_lex.specs.Cut.{cut, is, seen_cut};
 ghost use Rattle.sip_lex.specs.Sheltered.{cut_outside};
-ghost use Rattle.sip_uri.specs.Contact.{are_decimals, bare_form, behind_brackets, bracketed_form, contact_params, form_of, is_bare, is_bare_byte, is_contact_param, is_q, name_of, q_decimals, q_of, q_value, q_value_if_any, value_of};
-ghost use Rattle.sip_uri.specs.inner.SeenContact.{seen_form};
+ghost use Rattle.sip_uri.specs.Contact.{are_decimals, bare_form, behind_brackets, bracketed_form, contact_params, form_of, is_bare, is_bare_byte, is_contact_param, is_q, q_decimals, q_of, q_value, q_value_if_any, seen_form};
 
-use sip_lex::{Shelter, are_digits, cut_at, cut_outside, is_space, trim, trim_end, trim_start};
+use sip_lex::{
+    Shelter, are_digits, cut_at, cut_outside, is_param_named, is_space, param_name, param_value,
+    trim_end, trim_start,
+};
 
 /// The weight that is given where none is written, or one of another form.
 pub(crate) const FULL_WEIGHT: u16 = 1000;
@@ -58,28 +60,13 @@ fn q_value_if_any(value: Option<&[u8]>) -> u16
     }
 }
 
-fn name_of(param: &[u8]) -> &[u8]
-    ensures { result.now ≡ name_of param.now }
-{
-    trim(cut_at(param, b'=').0)
-}
-
-fn value_of(param: &[u8]) -> Option<&[u8]>
-    ensures { option_copied result ≡ value_of param.now }
-{
-    match cut_at(param, b'=').1 {
-        None => None,
-        Some(value) => Some(trim(value)),
-    }
-}
-
 fn is_contact_param(param: &[u8]) -> bool
     ensures { result ≡ is_contact_param param.now }
 {
-    if name_of(param).is_empty() {
+    if param_name(param).is_empty() {
         return false;
     }
-    match value_of(param) {
+    match param_value(param) {
         None => true,
         Some(value) => !value.is_empty(),
     }
@@ -93,8 +80,8 @@ fn cut_param(text: &[u8]) -> (&[u8], Option<&[u8]>)
     cut_outside(text, b';', Shelter::QuotesAndAngles)
 }
 
-/// Whether no parameter lacks a name, or a value behind its `=`.
-pub(crate) fn are_contact_params(params: Option<&[u8]>) -> bool
+/// Whether no parameter of a contact lacks a name, or a value behind its `=`.
+pub fn are_contact_params(params: Option<&[u8]>) -> bool
     ensures { result ≡ list_all is_contact_param (contact_params (option_copied params.entry)) }
 {
     let mut rest = params;
@@ -111,18 +98,18 @@ pub(crate) fn are_contact_params(params: Option<&[u8]>) -> bool
 fn is_q(param: &[u8]) -> bool
     ensures { result ≡ is_q param.now }
 {
-    name_of(param).eq_ignore_ascii_case(b"q")
+    is_param_named(param, b"q")
 }
 
-/// The weight that the first parameter `q` gives, in thousandths.
-pub(crate) fn q_of(params: Option<&[u8]>) -> u16
+/// The weight that the first parameter `q` gives, in thousandths (RFC 3261 section 20.10).
+pub fn q_of(params: Option<&[u8]>) -> u16
     ensures { result ≡ q_of (contact_params (option_copied params.entry)) }
 {
     let mut rest = params;
     while let Some(text) = rest {
         let (param, after) = cut_param(text);
         if is_q(param) {
-            return q_value_if_any(value_of(param));
+            return q_value_if_any(param_value(param));
         }
         rest = after;
     }
@@ -175,8 +162,9 @@ fn bare_form(item: &[u8]) -> Option<(&[u8], Option<&[u8]>)>
     Some((address, params))
 }
 
-/// The address of an item and the text of its parameters, where it has the form of a contact.
-pub(crate) fn form_of(item: &[u8]) -> Option<(&[u8], Option<&[u8]>)>
+/// The address of an item and the text of its parameters, where it has the form of a contact (RFC 3261 section 25.1: `contact-param`; the
+/// values of From and To have that form, too). Whether the address is a URI is not asked.
+pub fn form_of(item: &[u8]) -> Option<(&[u8], Option<&[u8]>)>
     ensures { seen_form result ≡ form_of item.now }
 {
     match cut_outside(item, b'<', Shelter::Quotes).1 {

@@ -21,6 +21,7 @@ mod write;
 
 pub use contact::{Contact, read_contacts};
 pub use fault::UriFault;
+pub use form::{are_contact_params, form_of, q_of};
 pub use hop::{Hop, Transport};
 pub use host::{cut_host, is_host, read_address, read_port};
 pub use text::{read_hop, uri_fault};

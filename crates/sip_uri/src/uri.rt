@@ -232,20 +232,4 @@ impl<A: Allocator + Clone> SipUri<A> {
     {
         out.extend_from_slice(self.key())
     }
-
-    /// The parameters of a key ascend, each of them once. A law: it does nothing when it runs.
-    pub fn key_params_ascend(&self)
-        ensures { IsStrictlySortedBy (slice_cmp nat_cmp) (key_params self.now.params) }
-    {
-        let _texts = &self.texts;
-    }
-
-    /// The parameters of a key are those that count: a test that passes at one of these passes at one
-    /// of those, and the other way round. A law: it does nothing when it runs.
-    pub fn key_params_count(&self)
-        ensures { (p : List ℕ → Bool)
-            → list_any p (key_params self.now.params) ≡ list_any p (counted self.now.params) }
-    {
-        let _texts = &self.texts;
-    }
 }

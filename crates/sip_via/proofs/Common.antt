@@ -31,7 +31,7 @@ pub use Rattle.sip_lex.specs.declared.sheltered.Shelter.TheVariants.{Quotes}
 pub use Rattle.sip_text.proofs.laws.Good.{and_both, trim_trimmed}
 pub use Rattle.sip_text.specs.Message.{IsMessage, is_header, is_line, is_line_byte, is_trimmed, is_value}
 pub use Rattle.sip_text.specs.Name.{first_of, first_value, same_name}
-pub use Rattle.sip_text.specs.Reading.{begins_with_space}
+pub use Rattle.sip_lex.specs.Values.{begins_with_space}
 pub use Rattle.sip_text.specs.Change.{valued_at, with_value_at}
 pub use Rattle.sip_text.specs.Seen.{view_line, views}
 pub use Rattle.sip_text.specs.Text.{HeaderText, MessageText}

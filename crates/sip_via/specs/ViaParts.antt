@@ -7,7 +7,7 @@ use Rattle.sip_lex.specs.Bytes.{is_space, is_token, trim, trim_end, trim_start}
 use Rattle.sip_lex.specs.Cut.{cut, is}
 use Rattle.sip_lex.specs.Number.{number_within}
 use Rattle.sip_lex.specs.Outside.{pieces_outside_behind}
-pub use Rattle.sip_lex.specs.Params.{name_of, value_of}
+pub use Rattle.sip_lex.specs.Params.{is_named, name_of, value_of}
 use Rattle.sip_lex.specs.Quoted.{quoted_at}
 pub use Rattle.sip_text.specs.Fields.{is_number}
 use Rattle.sip_uri.specs.Host.{host_len, is_host, port_of}
@@ -50,10 +50,6 @@ is_value_if_any (Some value) = is_value value
 
 abbrev pub is_param : List ℕ → Bool
 is_param param = is_token (name_of param) && is_value_if_any (value_of param)
-
--- the parameter has this name, in any case
-abbrev pub is_named : List ℕ → List ℕ → Bool
-is_named name param = bytes_eq (str_to_ascii_lowercase (name_of param)) (str_to_ascii_lowercase name)
 
 -- the value of the first parameter of that name, if it has one
 abbrev pub first_named : List ℕ → List (List ℕ) → Option (List ℕ)

@@ -4,7 +4,6 @@ ghost use Rattle.std.specs.Prelude.{◌≡◌, ◌<◌, ◌&&◌, ◌==◌, ◌+
 ghost use Rattle.std.specs.Fmt.{decimal};
 ghost use Rattle.std.specs.Option.{option_copied};
 ghost use Rattle.std.specs.Str.{bytes_eq};
-ghost use Rattle.sip_text.specs.Reading.{begins_with_space};
 ghost use Rattle.sip_via.specs.Address.{address_text};
 ghost use Rattle.sip_via.specs.declared.branch.BranchName.{BranchName};
 ghost use Rattle.sip_via.specs.BranchText.{IsBranch, branch_text};
@@ -22,7 +21,7 @@ use crate::own_value::is_own_address;
 use crate::params::first_param;
 use crate::received::DEFAULT_PORT;
 use crate::values::top_via;
-use sip_lex::is_space;
+use sip_lex::begins_with_space;
 use sip_text::Message;
 use std::alloc::Allocator;
 
@@ -90,16 +89,6 @@ fn spelled_own_branch(value: &[u8], own: Own) -> Option<BranchName>
     }
     is_branch(name);
     Some(name)
-}
-
-/// Whether a space stands first.
-fn begins_with_space(text: &[u8]) -> bool
-    ensures { result ≡ begins_with_space text.now }
-{
-    match text {
-        [first, ..] => is_space(*first),
-        [] => false,
-    }
 }
 
 /// The branch of a value that begins as the proxy's own, by what stands behind the transport. Most such values

@@ -1,13 +1,15 @@
 //! The parameters of a Via value.
 
-ghost use Rattle.std.specs.Prelude.{◌≡◌, ◌∷◌, Some, option_map};
+ghost use Rattle.std.specs.Prelude.{◌≡◌, ◌∷◌, Some};
 ghost use Rattle.std.specs.List.{list_all, list_any};
 ghost use Rattle.std.specs.Option.{option_copied};
-ghost use Rattle.sip_lex.specs.Bytes.{trim};
 ghost use Rattle.sip_lex.specs.Quoted.{quoted_at};
-ghost use Rattle.sip_via.specs.ViaParts.{first_named, is_named, is_number, is_param, is_plain_value, is_rport, is_value, is_value_byte, is_value_if_any, is_whole, name_of, number_if_any, params_of, value_of};
+ghost use Rattle.sip_via.specs.ViaParts.{first_named, is_number, is_param, is_plain_value, is_rport, is_value, is_value_byte, is_value_if_any, is_whole, number_if_any, params_of};
 
-use sip_lex::{Shelter, cut_near, cut_outside, cut_quoted, is_space, is_token, read_number, trim};
+use sip_lex::{
+    Shelter, cut_outside, cut_quoted, is_param_named, is_space, is_token, param_parts, param_value,
+    read_number,
+};
 use std::marker::Model;
 
 /// The first parameter, and what stands behind its `;`.
@@ -66,34 +68,6 @@ impl<'a> Iterator for Params<'a> {
     }
 }
 
-/// The name of a parameter, without the space round it.
-fn name_of(param: &[u8]) -> &[u8]
-    ensures { result.now ≡ name_of param.now }
-{
-    trim(cut_near(param, b'=').0)
-}
-
-/// A text, if there is one, without the space round it.
-fn trim_if_any(text: Option<&[u8]>) -> Option<&[u8]>
-    ensures { option_copied result ≡ option_map trim (option_copied text.entry) }
-{
-    Some(trim(text?))
-}
-
-/// The value of a parameter, if it has one, without the space round it.
-pub(crate) fn value_of(param: &[u8]) -> Option<&[u8]>
-    ensures { option_copied result ≡ value_of param.now }
-{
-    trim_if_any(cut_near(param, b'=').1)
-}
-
-/// Whether a parameter has that name, in any case.
-pub(crate) fn is_named(param: &[u8], name: &[u8]) -> bool
-    ensures { result ≡ is_named name.now param.now }
-{
-    name_of(param).eq_ignore_ascii_case(name)
-}
-
 fn is_value_byte(byte: u8) -> bool
     ensures { result ≡ is_value_byte byte }
 {
@@ -140,8 +114,8 @@ fn is_value_if_any(value: Option<&[u8]>) -> bool
 fn is_param(param: &[u8]) -> bool
     ensures { result ≡ is_param param.now }
 {
-    let (name, value) = cut_near(param, b'=');
-    is_token(trim(name)) && is_value_if_any(trim_if_any(value))
+    let (name, value) = param_parts(param);
+    is_token(name) && is_value_if_any(value)
 }
 
 /// Whether each of them is a parameter.
@@ -163,8 +137,8 @@ pub(crate) fn first_param<'a>(text: Option<&'a [u8]>, name: &[u8]) -> Option<&'a
 {
     let mut params = Params::of(text);
     while let Some(param) = params.next() {
-        if is_named(param, name) {
-            return value_of(param);
+        if is_param_named(param, name) {
+            return param_value(param);
         }
     }
     None
@@ -189,7 +163,7 @@ fn is_number(n: u64, value: Option<u64>) -> bool
 fn is_rport(param: &[u8], port: u16) -> bool
     ensures { result ≡ is_rport port param.now }
 {
-    is_named(param, b"rport") && is_number(u64::from(port), number_if_any(value_of(param)))
+    is_param_named(param, b"rport") && is_number(u64::from(port), number_if_any(param_value(param)))
 }
 
 /// Whether a parameter `rport` has that number.

@@ -193,7 +193,8 @@ fn with_via_line<A: Allocator>(
 
 /// The request with its source in the top Via value (RFC 3261 section 18.2.1, RFC 3581 section 4), made of the request
 /// itself: the first Via line is put in where it stands, and nothing else changes. Where that line is of at most 256 bytes
-/// then, no memory is asked for but the growth of the message's text, and none where the text has room for the line.
+/// then, more memory is asked for only where the message's text has no room for it. At the end the allocator is asked for
+/// smaller blocks for the message's text and its places: where it refuses one, the greater one stays.
 ///
 /// A `received` that is there is dropped; each `rport` without a value gets the source's port; and `received` is added
 /// where such an `rport` was there or the host isn't the source's address. All else is as it was.

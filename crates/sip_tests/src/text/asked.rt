@@ -2,10 +2,10 @@
 use crate::bytes::{has, holds_of, is};
 use crate::holds::holds;
 use crate::messages::{REQUEST, message_of};
-use sip_lex::whole_or_nothing;
+use sip_lex::{append_pieces, whole_or_nothing};
 use sip_text::{
-    Message, Method, append_pieces, append_request_line, append_status_line,
-    header_values_are_values, request_line_len, status_line_len, trimmed_part_is_a_value,
+    Message, Method, append_request_line, append_status_line, header_values_are_values,
+    request_line_len, status_line_len, trimmed_part_is_a_value,
 };
 use std::alloc::{AllocError, Global};
 use std::process::Abort;

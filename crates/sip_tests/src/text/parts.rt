@@ -111,7 +111,18 @@ fn header_lines_are_walked_and_cut(rt: HostRuntime) {
         "no lines at all",
     );
     match message_changed(rt.alloc(), 7, b"Content-Length: 4", b"body") {
-        Some(message) => are_the_lines(&rt, &message),
+        Some(mut message) => {
+            are_the_lines(&rt, &message);
+            message.shrink();
+            let headers = message.headers();
+            holds(&rt, are(headers, 7), "memory given back changes no line");
+        }
         None => holds(&rt, false, "the message is read"),
     }
+    let unspaced = message_changed(rt.alloc(), 7, b"Content-Length:4", b"body");
+    let well = match &unspaced {
+        Some(message) => message.headers().as_written().is_none(),
+        None => false,
+    };
+    holds(&rt, well, "a line without a space is written otherwise");
 }

@@ -1,7 +1,7 @@
 //! Values of Contact: their items, weights and faults.
 use crate::bytes::{has, holds_of, is};
 use crate::holds::holds;
-use sip_uri::{Contact, SipUri, UriFault, read_contacts};
+use sip_uri::{Contact, SipUri, UriFault, are_contact_params, form_of, q_of, read_contacts};
 use std::alloc::Global;
 use std::process::Abort;
 
@@ -142,5 +142,18 @@ fn weighs_contacts_without_a_uri(rt: HostRuntime) {
         let found = one_contact(rt.alloc(), value);
         let wanted = Ok(Some((q, false)));
         holds_of(&rt, found == wanted, "the q of what is not taken", value);
+    }
+}
+
+#[test]
+fn has_the_form_of_a_contact(rt: HostRuntime) {
+    match form_of(b"Bob <sip:h> ;q=0.5;x") {
+        Some((address, params)) => {
+            holds(&rt, is(address, b"sip:h"), "the address");
+            holds(&rt, has(params, b"q=0.5;x"), "the parameters");
+            holds(&rt, are_contact_params(params), "they are some");
+            holds(&rt, q_of(params) == 500, "the weight");
+        }
+        None => holds(&rt, false, "the form of a contact"),
     }
 }

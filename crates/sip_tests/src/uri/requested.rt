@@ -15,13 +15,11 @@ fn whole(alloc: Global) -> Option<SipUri<Global>> {
     }
 }
 
-/// Whether the key that a URI lends is this, and its laws may be asked.
+/// Whether the key that a URI lends is this, and its law may be asked.
 fn lends(alloc: Global, key: &[u8]) -> bool {
     match whole(alloc) {
         Some(uri) => {
             uri.is_uri();
-            uri.key_params_ascend();
-            uri.key_params_count();
             is(uri.key(), key)
         }
         None => false,

@@ -1,7 +1,7 @@
 //! Addresses told from other texts, and the digits of a byte.
 use crate::holds::holds;
 use crate::rows::holds_in_row;
-use sip_lex::hex_pair;
+use sip_lex::{hex_pair, read_pair};
 use sip_via::is_address;
 
 /// Texts, and whether each is the address 192.0.2.9.
@@ -25,4 +25,9 @@ fn an_address_is_told_from_other_texts(rt: HostRuntime) {
         );
     }
     holds(&rt, hex_pair(0xa7) == [b'a', b'7'], "two digits of a byte");
+    holds(
+        &rt,
+        read_pair(b'a', b'7') == Some(0xa7),
+        "the byte of two digits",
+    );
 }

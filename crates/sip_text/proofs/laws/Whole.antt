@@ -2,7 +2,7 @@
 use Rattle.sip_text.proofs.Common.{◌≡◌, ◌≢◌, ℕ, zero, suc, ◌≤◌, true, cond, eqb, leb, List, [], ◌∷◌, ◌++◌, length, map, take, drop, Option, Some, None, Result, Ok, Err, refl, sym, ap, subst, ◌∙◌, inl, inr, arith, length-take, ◌&&◌, flat_map}
 use Rattle.sip_text.proofs.Common.{join_with_byte, AllByRecursion, and_parts, cases_Bool, cond_both, cond-true, cond-false, eqb-true, leb-true, ne_eqb, take-append-drop, trim, IsLine, ended, line_at, pieces, line_at-again}
 use Rattle.sip_text.proofs.Common.{line_at-takes, BodyLength, Unsaid, Bytes, Wrong, MandatoryHeader, cseq_fits, missing, said_length, AreHeaders, IsBody, IsFull, IsText, blank_lines, after_headers, after_line, after_start, head_of, if_present, Fault, BadCSeq}
-use Rattle.sip_text.proofs.Common.{BadHeader, BadLength, BadStart, Group, Headers, Lines, Short, closed, lines_at, skip, tail_of_group, tail_of_lines, HeaderText, MessageText, StartText, common_steps, rules}
+use Rattle.sip_text.proofs.Common.{BadHeader, BadLength, BadStart, Group, Headers, Lines, Short, closed, lines_at, skip_line_ends, tail_of_group, tail_of_lines, HeaderText, MessageText, StartText, common_steps, rules}
 use Rattle.sip_text.specs.Message.{body_at, checked, read_at}
 use Rattle.sip_text.specs.Reading.{grouped, headers_at, start_of, tail_at}
 use Rattle.sip_text.proofs.Groups.{grouped_found, headers_again}
@@ -16,28 +16,28 @@ Read = Result MessageText Fault
 
 -- ---- empty lines at the front
 
-pub skip_blank : (n : ℕ) (bs : List ℕ) → skip (blank_lines n ++ bs) ≡ skip bs
+pub skip_blank : (n : ℕ) (bs : List ℕ) → skip_line_ends (blank_lines n ++ bs) ≡ skip_line_ends bs
 skip_blank zero bs = refl
 skip_blank (suc n) bs = skip_blank n bs
 
-keep_first : (b c : ℕ) (bs : List ℕ) → (b ≢ 13) → skip (b ∷ c ∷ bs) ≡ b ∷ c ∷ bs
+keep_first : (b c : ℕ) (bs : List ℕ) → (b ≢ 13) → skip_line_ends (b ∷ c ∷ bs) ≡ b ∷ c ∷ bs
 keep_first b c bs h = cond-false _ _ _ (ap (λ x. x && eqb c 10) (ne_eqb b 13 h))
 
-pub skip_line : (line rest : List ℕ) → IsLine line → (line ≢ []) → skip (ended line ++ rest) ≡ ended line ++ rest
+pub skip_line : (line rest : List ℕ) → IsLine line → (line ≢ []) → skip_line_ends (ended line ++ rest) ≡ ended line ++ rest
 skip_line [] rest h full = absurd (full refl)
 skip_line (b ∷ []) rest h full = keep_first b 13 (10 ∷ rest) h.no_cr.0
 skip_line (b ∷ c ∷ bs) rest h full = keep_first b c (ended bs ++ rest) h.no_cr.0
 
-skip_pair : (b c : ℕ) (bs : List ℕ) → (eqb b 13 && eqb c 10) ≡ true → (n : ℕ) × (bs ≡ blank_lines n ++ skip bs) → (n : ℕ) × (b ∷ c ∷ bs ≡ blank_lines n ++ skip bs)
+skip_pair : (b c : ℕ) (bs : List ℕ) → (eqb b 13 && eqb c 10) ≡ true → (n : ℕ) × (bs ≡ blank_lines n ++ skip_line_ends bs) → (n : ℕ) × (b ∷ c ∷ bs ≡ blank_lines n ++ skip_line_ends bs)
 skip_pair b c bs e h =
     let both = and_parts (eqb b 13) (eqb c 10) e in
     (suc h.0, ap (λ n. n ∷ c ∷ bs) (eqb-true b 13 both.0) ∙ ap (λ n. 13 ∷ n ∷ bs) (eqb-true c 10 both.1) ∙ ap (λ (x : List ℕ). 13 ∷ 10 ∷ x) h.1)
 
-pub skip_found : (bs : List ℕ) → (n : ℕ) × (bs ≡ blank_lines n ++ skip bs)
+pub skip_found : (bs : List ℕ) → (n : ℕ) × (bs ≡ blank_lines n ++ skip_line_ends bs)
 skip_found [] = (0, refl)
 skip_found (b ∷ []) = (0, refl)
 skip_found (b ∷ c ∷ bs) =
-    cond_both (eqb b 13 && eqb c 10) (skip bs) (b ∷ c ∷ bs) (λ (r : List ℕ). (n : ℕ) × (b ∷ c ∷ bs ≡ blank_lines n ++ r))
+    cond_both (eqb b 13 && eqb c 10) (skip_line_ends bs) (b ∷ c ∷ bs) (λ (r : List ℕ). (n : ℕ) × (b ∷ c ∷ bs ≡ blank_lines n ++ r))
     (λ e. skip_pair b c bs e (skip_found bs))
     (λ e. (0, refl))
 
@@ -64,7 +64,7 @@ unfolding read_at
 text_read text m t =
     let tail = flat_map ended t.lines ++ (ended [] ++ t.rest) in
     let start = start_again t.line m.start t.start in
-    let front : skip text ≡ ended t.line ++ tail = ap skip t.whole ∙ skip_blank t.blank (ended t.line ++ tail) ∙ skip_line t.line tail t.is_line (no_start m.start t.line start) in
+    let front : skip_line_ends text ≡ ended t.line ++ tail = ap skip_line_ends t.whole ∙ skip_blank t.blank (ended t.line ++ tail) ∙ skip_line t.line tail t.is_line (no_start m.start t.line start) in
     grind (arith, line_at-again, headers_read, join_pieces, checked_again)
 
 -- ---- and what is read is spelled so
@@ -141,22 +141,22 @@ checked_found start hs rest m e =
 abbrev with_body : StartText → List HeaderText → List ℕ → MessageText
 with_body start hs body = record { start = start; headers = hs; body = body }
 
-all_found : (text line rest : List ℕ) (start : StartText) (x : Headers) (m : MessageText) → line_at (skip text) ≡ Some (line, rest) → start_of line ≡ Ok start → HeadersAre rest x → Checked start x.0 (join_with_byte 10 x.1) m → IsText text m
+all_found : (text line rest : List ℕ) (start : StartText) (x : Headers) (m : MessageText) → line_at (skip_line_ends text) ≡ Some (line, rest) → start_of line ≡ Ok start → HeadersAre rest x → Checked start x.0 (join_with_byte 10 x.1) m → IsText text m
 all_found text line rest start x m at read are ok =
-    let t = line_at-takes (skip text) line rest at in
+    let t = line_at-takes (skip_line_ends text) line rest at in
     let blank = skip_found text in
     grind (arith, join_pieces, start_found)
 
-after_headers_found : (text line rest : List ℕ) (start : StartText) (o : Option Headers) (m : MessageText) → line_at (skip text) ≡ Some (line, rest) → start_of line ≡ Ok start → headers_at rest ≡ o → after_headers start o ≡ Ok m → IsText text m
+after_headers_found : (text line rest : List ℕ) (start : StartText) (o : Option Headers) (m : MessageText) → line_at (skip_line_ends text) ≡ Some (line, rest) → start_of line ≡ Ok start → headers_at rest ≡ o → after_headers start o ≡ Ok m → IsText text m
 after_headers_found text line rest start None m at read hs e = bad BadHeader m _ e
 after_headers_found text line rest start (Some x) m at read hs e = all_found text line rest start x m at read (headers_found rest x hs) (checked_found start x.0 (join_with_byte 10 x.1) m e)
 
-after_start_found : (text line rest : List ℕ) (r : Result StartText Fault) (m : MessageText) → line_at (skip text) ≡ Some (line, rest) → start_of line ≡ r → after_start r rest ≡ Ok m → IsText text m
+after_start_found : (text line rest : List ℕ) (r : Result StartText Fault) (m : MessageText) → line_at (skip_line_ends text) ≡ Some (line, rest) → start_of line ≡ r → after_start r rest ≡ Ok m → IsText text m
 after_start_found text line rest r m at read e = search (rules, bad, after_headers_found)
 
-after_line_found : (text : List ℕ) (o : Option (List ℕ × List ℕ)) (m : MessageText) → line_at (skip text) ≡ o → after_line o ≡ Ok m → IsText text m
+after_line_found : (text : List ℕ) (o : Option (List ℕ × List ℕ)) (m : MessageText) → line_at (skip_line_ends text) ≡ o → after_line o ≡ Ok m → IsText text m
 after_line_found text o m at e = search (rules, bad, after_start_found)
 
 pub text_found : (text : List ℕ) (m : MessageText) → read_at text ≡ Ok m → IsText text m
 unfolding read_at
-text_found text m e = after_line_found text (line_at (skip text)) m refl e
+text_found text m e = after_line_found text (line_at (skip_line_ends text)) m refl e

@@ -7,8 +7,9 @@ use Rattle.sip_text.specs.declared.found.Field.TheVariants as fields
 use Rattle.sip_text.specs.declared.found.Found.{Found}
 use Rattle.sip_text.specs.declared.needed.MandatoryHeader.{MandatoryHeader}
 use Rattle.sip_text.specs.declared.needed.MandatoryHeader.TheVariants.{Via, From, To, CallId, CSeq}
-use Rattle.sip_text.specs.Fields.{agreed, length_number, said_length, says, value_of}
-use Rattle.sip_text.specs.Seen.{part_at}
+use Rattle.sip_text.specs.Fields.{agreed, said_length, says, value_of}
+use Rattle.sip_lex.specs.Number.{length_number}
+use Rattle.sip_lex.specs.Places.{part_at}
 use Rattle.sip_text.specs.Text.{HeaderText}
 
 abbrev pub is_same : MandatoryHeader → MandatoryHeader → Bool

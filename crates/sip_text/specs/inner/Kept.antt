@@ -1,17 +1,14 @@
 -- A message by the text that it lies in.
-use Rattle.std.specs.Prelude.{◌≡◌, ℕ, ◌+◌, List, ◌++◌, drop, length, take}
+use Rattle.std.specs.Prelude.{◌≡◌, ℕ, List, drop, length, take}
 use Rattle.sip_text.specs.declared.place.LinePlaces.{LinePlaces}
-use Rattle.sip_text.specs.declared.place.PartPlace.{PartPlace}
+use Rattle.sip_lex.specs.declared.place.PartPlace.{PartPlace}
 use Rattle.sip_text.specs.declared.place.StartPlaces.{StartPlaces}
 use Rattle.sip_text.specs.declared.place.StartPlaces.TheVariants.{Request, Response}
 use Rattle.sip_text.specs.Message.{IsMessage}
-use Rattle.sip_text.specs.Seen.{headers_in, part_at, start_in}
+use Rattle.sip_text.specs.Seen.{headers_in, start_in}
+use Rattle.sip_lex.specs.Places.{IsWithin, moved, part_at}
 use Rattle.sip_text.specs.Text.{MessageText}
-pub use Rattle.sip_text.specs.inner.Within.{AreLinesWithin, IsLineWithin, IsWithin}
-
--- the text ends so
-abbrev pub IsEnd : List ℕ → List ℕ → Type 0
-IsEnd text end = (front : List ℕ) × (text ≡ front ++ end)
+pub use Rattle.sip_text.specs.inner.Within.{AreLinesWithin, IsLineWithin}
 
 -- the part stands in the text from a place on
 abbrev pub IsAt : List ℕ → ℕ → List ℕ → Type 0
@@ -22,9 +19,6 @@ IsStartWithin room (Request method uri) = IsWithin room method × IsWithin room 
 IsStartWithin room (Response status reason) = IsWithin room reason
 
 -- ---- places in a line, as places in the text that it stands in
-
-abbrev pub moved : ℕ → PartPlace → PartPlace
-moved by place = record { start = by + place.start; len = place.len }
 
 abbrev pub line_moved : ℕ → LinePlaces → LinePlaces
 line_moved by line = record { name = moved by line.name; value = moved by line.value }

@@ -1,6 +1,6 @@
 use Rattle.sip_text.proofs.Common.{◌∙◌, sym, arith, eqb-true, ended, header_in, headers_in}
 use Rattle.std.proofs.lemmas.Bool.{eqb-false}
-use Rattle.sip_text.proofs.Ends.{end_later}
+use Rattle.sip_lex.proofs.Parts.{end_later}
 use Rattle.sip_text.proofs.HeaderPlaces.{begins_still, headers_pushed, kept_at, within_pushed}
 use Rattle.sip_text.proofs.Tails.{headers_end-early, headers_end, headers_go_on, headers_fail}
 use Rattle.sip_text.proofs.head.headers_of.Goals as goal

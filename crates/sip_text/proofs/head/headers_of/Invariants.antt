@@ -1,5 +1,6 @@
 use Rattle.sip_text.proofs.Common.{◌≡◌, length, take, prepended, headers_at, headers_in}
-use Rattle.sip_text.specs.inner.Kept.{AreLinesWithin, IsEnd}
+use Rattle.sip_text.specs.inner.Kept.{AreLinesWithin}
+use Rattle.sip_lex.specs.Places.{IsEnd}
 use Rattle.sip_text.proofs.head.headers_of.Given as goal
 
 abbrev pub invariant-loop-line : goal.invariant-loop-line

@@ -1,6 +1,6 @@
 use Rattle.sip_text.proofs.Common.{◌∙◌, sym, ap, arith, drop, List, ℕ, begins_with_space, ended, headers_at, or_bad, valued, with_part}
 use Rattle.sip_text.proofs.laws.Good.{trim_front}
-use Rattle.sip_text.proofs.Ends.{end_later}
+use Rattle.sip_lex.proofs.Parts.{end_later}
 use Rattle.sip_text.proofs.Tails.{part_front, value_ends-early, value_ends, value_with_part}
 use Rattle.sip_text.proofs.head.with_lines.Goals as goal
 

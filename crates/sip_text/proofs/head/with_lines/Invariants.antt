@@ -1,5 +1,5 @@
 use Rattle.sip_text.proofs.Common.{◌≡◌, ◌≤◌, false, drop, length, take, continued, begins_with_space, tail_at}
-use Rattle.sip_text.specs.inner.Kept.{IsEnd}
+use Rattle.sip_lex.specs.Places.{IsEnd}
 use Rattle.sip_text.proofs.head.with_lines.Given as goal
 
 abbrev pub invariant-loop-rest : goal.invariant-loop-rest

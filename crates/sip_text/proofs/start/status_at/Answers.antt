@@ -1,5 +1,6 @@
 use Rattle.sip_text.proofs.Common.{◌∙◌, arith, common_steps}
-use Rattle.sip_text.proofs.Ends.{end_dropped, take_whole}
+use Rattle.sip_text.proofs.Ends.{take_whole}
+use Rattle.sip_lex.proofs.Parts.{end_dropped}
 use Rattle.sip_text.proofs.start.status_at.Goals as goal
 
 pub place_at_end-reason-requires-clause-end : goal.place_at_end-reason-requires-clause-end

@@ -1,6 +1,6 @@
 -- What has no room while parts are appended has none for all of them.
-use Rattle.sip_text.proofs.Common.{◌≡◌, ℕ, ◌+◌, ◌<◌, ◌≤◌, List, ◌++◌, Result, length, take, get_or, arith, flat_map, common_steps}
-use Rattle.std.proofs.Common.{OnErr}
+use Rattle.sip_lex.proofs.Common.{◌≡◌, ℕ, ◌+◌, ◌<◌, ◌≤◌, List, ◌++◌, length, take, get_or, arith, flat_map, common_steps}
+use Rattle.std.proofs.Common.{OnErr, Result}
 use Rattle.std.proofs.lemmas.List.Folds.{length-flat_map-take}
 
 pub of_err : {T E P : Type 0} (r : Result T E) → P → OnErr r P

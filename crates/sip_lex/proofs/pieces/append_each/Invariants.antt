@@ -1,5 +1,6 @@
-use Rattle.sip_text.proofs.Common.{◌≡◌, ◌≤◌, ◌++◌, take, pieces_text}
-use Rattle.sip_text.proofs.write.append_each.Given as goal
+use Rattle.sip_lex.proofs.Common.{◌≡◌, ◌≤◌, ◌++◌, take}
+use Rattle.sip_lex.specs.Texts.{pieces_text}
+use Rattle.sip_lex.proofs.pieces.append_each.Given as goal
 
 abbrev pub invariant-loop-piece : goal.invariant-loop-piece
 invariant-loop-piece g l = record {

@@ -1,5 +1,5 @@
-use Rattle.sip_text.proofs.Grown.{none_for_part, of_err}
-use Rattle.sip_text.proofs.write.append_each.Goals as goal
+use Rattle.sip_lex.proofs.Grown.{none_for_part, of_err}
+use Rattle.sip_lex.proofs.pieces.append_each.Goals as goal
 
 pub returns-in_err-extend_from_slice-clause-full :
     goal.returns-in_err-extend_from_slice-clause-full

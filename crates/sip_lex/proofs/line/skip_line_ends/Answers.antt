@@ -1,6 +1,6 @@
-use Rattle.sip_text.proofs.Common.{arith, common_steps}
-use Rattle.sip_text.proofs.Ends.{end_dropped}
-use Rattle.sip_text.proofs.start.skip.Goals as goal
+use Rattle.sip_lex.proofs.Common.{arith, common_steps}
+use Rattle.sip_lex.proofs.Parts.{end_dropped}
+use Rattle.sip_lex.proofs.line.skip_line_ends.Goals as goal
 
 pub loop-rest-preserved : goal.loop-rest-preserved
 loop-rest-preserved c = record {

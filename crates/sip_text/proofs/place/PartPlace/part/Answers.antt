@@ -1,6 +1,0 @@
-use Rattle.sip_text.proofs.Common.{arith}
-use Rattle.sip_text.proofs.Places.{part_of_part}
-use Rattle.sip_text.proofs.place.PartPlace.part.Goals as goal
-
-pub returns-clause-part : goal.returns-clause-part
-returns-clause-part c = λ text. grind (arith, part_of_part)

@@ -1,5 +1,0 @@
-use Rattle.sip_text.proofs.Common.{◌≡◌, take, length, pieces_text, saturated}
-use Rattle.sip_text.proofs.write.len_of.Given as goal
-
-abbrev pub invariant-loop-piece : goal.invariant-loop-piece
-invariant-loop-piece l = l.len ≡ saturated (length (pieces_text (take l.piece-index l.pieces)))
