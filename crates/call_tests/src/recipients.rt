@@ -1,6 +1,7 @@
 //! Which transaction of a call a message is for.
 use crate::holds::holds;
-use crate::requests::{opened, sent_to, setup_of, text_of};
+use crate::requests::{opened, sent_to, setup_of};
+use call_messages::lines::text_of;
 use call_state::{CallState, MatchedTransaction, match_transaction};
 use proxy_config::Setup;
 use sip_text::Message;

@@ -8,6 +8,7 @@ ghost use Rattle.call_model.specs.Sound.{IsSound};
 use crate::holds::holds;
 use call_branch::{Destination, OpenedRequest, Opening, is_redirection, response_status};
 use call_caller::PendingResponse;
+use call_messages::lines::text_of;
 use call_model::{
     Cause, Datagram, Step, Taken, TriedContacts, branches_keep_their_answers, calls_stay_sound,
 };
@@ -230,7 +231,7 @@ const CANCEL: [&[u8]; 9] = [
 
 // ---- how the parts begin
 
-pub(crate) use crate::requests::{message_of, text_of};
+pub(crate) use crate::requests::message_of;
 
 /// Whether a value is one to three digits of 1 to 255.
 fn are_hops(value: &[u8]) -> bool
