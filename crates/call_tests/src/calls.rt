@@ -6,6 +6,7 @@ use crate::recipients::{
 use crate::requests::{SOURCE, opening_of, setup_of};
 use call_table::Pending;
 use fork_call::{Call, Cause, Datagram, PendingCall, Setup, Step, TakeFault, Taken, is_openable};
+use sip_via::own_branch;
 use std::alloc::Global;
 use std::process::Abort;
 
@@ -103,6 +104,8 @@ enum Turn {
     Rests,
     /// A message by its start line, its Via lines and its CSeq line is taken so.
     Takes(&'static [u8], (&'static [u8], &'static [u8]), &'static [u8], Result<Taken, TakeFault>),
+    /// Such a response is taken so, whose branch was read before.
+    Answers(&'static [u8], (&'static [u8], &'static [u8]), &'static [u8], Result<Taken, TakeFault>),
     /// A datagram of this cause could not be sent.
     Fails(Cause),
     /// So many events were posted.
@@ -134,6 +137,25 @@ fn takes(
     }
 }
 
+/// What comes of such a response, by the branch that its top Via value names.
+fn answered(
+    alloc: Global,
+    call: &mut Call,
+    now: u64,
+    start: &[u8],
+    vias: (&[u8], &[u8]),
+    cseq: &[u8],
+) -> Option<Result<Taken, TakeFault>> {
+    let response = message_of(alloc, start, vias, cseq)?;
+    if response.status().is_none() {
+        return None;
+    }
+    match own_branch(&response, call.own()) {
+        Some(branch) => Some(call.take_response(response, branch, SOURCE, now)),
+        None => None,
+    }
+}
+
 /// Whether a turn goes as it is told.
 fn goes(alloc: Global, call: &mut Call, now: u64, turn: Turn) -> bool {
     match turn {
@@ -143,6 +165,9 @@ fn goes(alloc: Global, call: &mut Call, now: u64, turn: Turn) -> bool {
         Turn::Rests => is_idle(call, now),
         Turn::Takes(start, vias, cseq, wanted) => {
             takes(alloc, call, now, start, vias, cseq, wanted)
+        }
+        Turn::Answers(start, vias, cseq, wanted) => {
+            answered(alloc, call, now, start, vias, cseq) == Some(wanted)
         }
         Turn::Fails(cause) => call.failed(cause, now).is_ok(),
         Turn::HasPosted(count) => call.book().history().len() == count,
@@ -219,7 +244,17 @@ const TAKING: &[Moment] = &[
         Turn::Takes(OKAY, (SECOND, CALLER), INVITING, Ok(Taken::Posted(2))),
         "the 200 comes again",
     ),
-    (20, Turn::HasPosted(3), "three events"),
+    (
+        20,
+        Turn::Answers(OKAY, (SECOND, CALLER), INVITING, Ok(Taken::Posted(3))),
+        "and again, its branch being known",
+    ),
+    (
+        20,
+        Turn::Answers(OKAY, (OTHER, CALLER), INVITING, Err(TakeFault::Stray)),
+        "the 200 of another call, its branch being known",
+    ),
+    (20, Turn::HasPosted(4), "four events"),
     (
         20,
         Turn::WaitsFor(0, Some(32_020)),
