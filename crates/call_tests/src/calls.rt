@@ -4,11 +4,13 @@ use crate::recipients::{
     CALLER, CANCELLING, FIRST, INVITE, INVITING, NO_VIA, OKAY, RINGING, SECOND, SETUP, message_of,
 };
 use crate::requests::{SOURCE, opening_of, setup_of};
-use call_table::Pending;
+use call_table::{Pending, Shelf};
 use fork_call::{Call, Cause, Datagram, PendingCall, Setup, Step, TakeFault, Taken, is_openable};
+use sip_uri::{Hop, Transport};
 use sip_via::own_branch;
 use std::alloc::Global;
 use std::process::Abort;
+use std::sync::Wait;
 
 /// The call that the INVITE opens as number 3, to the two branches of a setup.
 fn opened_by(alloc: Global, setup: &Setup<Global>) -> Option<Call> {
@@ -310,6 +312,13 @@ fn a_call_tells_strays_and_failures(rt: HostRuntime) {
 
 // ---- a call that is prepared before it has its number
 
+/// Where the answers to the caller go, whose Via value asks for no other port.
+const ANSWERED: Hop = Hop {
+    addr: [192, 0, 2, 1],
+    port: 5060,
+    transport: Transport::Udp,
+};
+
 /// Whether the next datagram of a call is this one, its cause apart.
 fn sends_like(call: &mut Call, wanted: &Datagram) -> bool {
     match next_sent(call, 0) {
@@ -349,6 +358,7 @@ fn a_prepared_call_is_the_one_that_opens(rt: HostRuntime) {
     match numbered(alloc) {
         Some(mut call) => {
             holds(&rt, call.number() == 3, "the number that it got");
+            holds(&rt, call.caller() == ANSWERED, "where the answers go");
             holds(
                 &rt,
                 begins_alike(alloc, &mut call),
@@ -370,4 +380,22 @@ fn is_given_back(alloc: Global) -> bool {
 #[test]
 fn a_call_that_is_not_kept_gives_its_request_back(rt: HostRuntime) {
     holds(&rt, is_given_back(rt.alloc()), "its INVITE");
+}
+
+/// Whether what the INVITE opens becomes the first call of a shelf, under a key that then is taken.
+fn is_put<R: Wait>(rt: &R, alloc: Global) -> bool {
+    let Ok(shelf) = Shelf::<Call>::new(alloc) else {
+        return false;
+    };
+    match (prepared(alloc), Vec::from_slice(alloc, b"a")) {
+        (Some(prepared), Ok(key)) => {
+            shelf.put_pending(rt, key, prepared).ok() == Some(0) && shelf.keyed(rt, b"a") == Some(0)
+        }
+        _ => false,
+    }
+}
+
+#[test]
+fn a_prepared_call_is_put_on_a_shelf(rt: HostRuntime) {
+    holds(&rt, is_put(&rt, rt.alloc()), "the first call");
 }

@@ -2,9 +2,10 @@
 use crate::holds::holds;
 use crate::requests::{opened, sent_to, setup_of};
 use call_messages::lines::text_of;
-use call_state::{CallState, MatchedTransaction, match_transaction};
+use call_state::{CallState, MatchedTransaction, match_response, match_transaction};
 use proxy_config::Setup;
-use sip_text::Message;
+use sip_text::{Message, StartLine};
+use sip_via::own_branch;
 use std::alloc::Global;
 use std::process::Abort;
 
@@ -105,10 +106,33 @@ type Addressed = (
     Option<MatchedTransaction>,
 );
 
+/// What a response is for by the branch that its top Via value names, if it is a response and that names one of the proxy's.
+fn by_branch(state: &CallState, response: &Message<Global>) -> Option<MatchedTransaction> {
+    match response.start() {
+        StartLine::Request { .. } => return None,
+        StartLine::Response { .. } => (),
+    }
+    match own_branch(response, state.opened().own()) {
+        Some(branch) => match_response(state, response, branch),
+        None => None,
+    }
+}
+
+/// Whether a response is for this transaction, as it stands and by its branch. A request is for it as it stands.
+fn is_message_for(
+    state: &CallState,
+    message: &Message<Global>,
+    wanted: Option<MatchedTransaction>,
+) -> bool {
+    let is_response = message.status().is_some();
+    match_transaction(state, message) == wanted
+        && (!is_response || by_branch(state, message) == wanted)
+}
+
 /// Whether a message is for what it is to be for.
 fn is_for(alloc: Global, state: &CallState, message: &Addressed) -> bool {
     match message_of(alloc, message.0, message.1, message.2) {
-        Some(read) => match_transaction(state, &read) == message.3,
+        Some(read) => is_message_for(state, &read, message.3),
         None => false,
     }
 }

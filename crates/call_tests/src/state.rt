@@ -23,7 +23,7 @@ use sip_via::Own;
 use std::alloc::{AllocError, Global};
 
 /// The proxy's own address.
-const OWN: Own = Own {
+pub(crate) const OWN: Own = Own {
     addr: [192, 0, 2, 9],
     port: 5060,
     transport: Transport::Udp,
@@ -277,7 +277,7 @@ fn fixed_by(request: Message<Global>) -> Option<OpenedRequest> {
 }
 
 /// What the call of the request of these lines is opened with.
-fn opened_of(alloc: Global, lines: &[&[u8]]) -> Option<OpenedRequest> {
+pub(crate) fn opened_of(alloc: Global, lines: &[&[u8]]) -> Option<OpenedRequest> {
     fixed_by(message_of(alloc, lines)?)
 }
 
