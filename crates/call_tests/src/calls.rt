@@ -1,7 +1,8 @@
 //! A call from its request on.
 use crate::holds::holds;
 use crate::recipients::{
-    CALLER, CANCELLING, FIRST, INVITE, INVITING, NO_VIA, OKAY, RINGING, SECOND, SETUP, message_of,
+    CALLER, CANCELLING, FIRST, INVITE, INVITING, NO_VIA, OKAY, RINGING, SECOND, SETUP, is_response,
+    message_of,
 };
 use crate::requests::{SOURCE, opening_of, setup_of};
 use call_table::{Pending, Shelf};
@@ -140,6 +141,7 @@ fn takes(
 }
 
 /// What comes of such a response, by the branch that its top Via value names.
+#[tactic(auto, using(crate::proofs::ReadBranch::read_so))]
 fn answered(
     alloc: Global,
     call: &mut Call,
@@ -149,7 +151,7 @@ fn answered(
     cseq: &[u8],
 ) -> Option<Result<Taken, TakeFault>> {
     let response = message_of(alloc, start, vias, cseq)?;
-    if response.status().is_none() {
+    if !is_response(&response) {
         return None;
     }
     match own_branch(&response, call.own()) {

@@ -1,4 +1,7 @@
 //! Which transaction of a call a message is for.
+ghost use Rattle.std.specs.Prelude.{◌≡◌};
+ghost use Rattle.call_state.specs.Kinds.{is_response};
+
 use crate::holds::holds;
 use crate::requests::{opened, sent_to, setup_of};
 use call_messages::lines::text_of;
@@ -106,11 +109,21 @@ type Addressed = (
     Option<MatchedTransaction>,
 );
 
+/// Whether a message is a response.
+pub(crate) fn is_response(message: &Message<Global>) -> bool
+    ensures { result ≡ is_response message.now.start }
+{
+    match message.start() {
+        StartLine::Request { .. } => false,
+        StartLine::Response { .. } => true,
+    }
+}
+
 /// What a response is for by the branch that its top Via value names, if it is a response and that names one of the proxy's.
+#[tactic(auto, using(crate::proofs::ReadBranch::read_so))]
 fn by_branch(state: &CallState, response: &Message<Global>) -> Option<MatchedTransaction> {
-    match response.start() {
-        StartLine::Request { .. } => return None,
-        StartLine::Response { .. } => (),
+    if !is_response(response) {
+        return None;
     }
     match own_branch(response, state.opened().own()) {
         Some(branch) => match_response(state, response, branch),
@@ -124,9 +137,8 @@ fn is_message_for(
     message: &Message<Global>,
     wanted: Option<MatchedTransaction>,
 ) -> bool {
-    let is_response = message.status().is_some();
     match_transaction(state, message) == wanted
-        && (!is_response || by_branch(state, message) == wanted)
+        && (!is_response(message) || by_branch(state, message) == wanted)
 }
 
 /// Whether a message is for what it is to be for.
