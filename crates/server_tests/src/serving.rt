@@ -104,3 +104,15 @@ fn arguments_say_for_how_many_turns(rt: HostRuntime) {
         holds(&rt, well, "for how many turns a proxy serves");
     }
 }
+
+#[test]
+fn a_fault_has_its_exit_status(rt: HostRuntime) {
+    for (fault, status) in [
+        (ServeFault::TooLong, 1),
+        (ServeFault::Line(2), 1),
+        (ServeFault::NoMemory, 3),
+        (ServeFault::Socket, 5),
+    ] {
+        holds(&rt, fault.status() == status, "the status of a fault");
+    }
+}
