@@ -20,6 +20,29 @@ Contact: <sip:dave@192.0.2.8:5070>\r\n\
 l: 0\r\n\
 \r\n";
 
+/// Where the contact of the higher q leads.
+pub const CONTACT: Hop = Hop {
+    addr: [192, 0, 2, 8],
+    port: 5070,
+    transport: Transport::Udp,
+};
+
+/// The INVITE as it goes there.
+pub const CONTACT_SENT: Sent = Sent {
+    cause: Cause::Request(1),
+    to: CONTACT,
+    text: b"INVITE sip:dave@192.0.2.8:5070 SIP/2.0\r\n\
+Via: SIP/2.0/UDP 192.0.2.9:5060;branch=z9hG4bK8c31e71e0ddbf1a0e56f5f0279990857.7.3.1\r\n\
+v: SIP/2.0/UDP 192.0.2.1:5060;branch=z9hG4bKa;rport=40000;received=192.0.2.1\r\n\
+Max-Forwards: 69\r\n\
+f: <sip:alice@example.com>;tag=1\r\n\
+t: <sip:bob@example.com>\r\n\
+i: c1\r\n\
+CSeq: 1 INVITE\r\n\
+l: 0\r\n\
+\r\n",
+};
+
 // ---- an INVITE for another URI
 
 /// The request.

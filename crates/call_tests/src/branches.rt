@@ -34,7 +34,7 @@ const FOURTH: Hop = Hop {
 };
 
 /// A 302 of the first branch with two contacts that may be tried, behind one that may not.
-const MOVED: [&[u8]; 10] = [
+pub(crate) const MOVED: [&[u8]; 10] = [
     b"SIP/2.0 302 Moved Temporarily",
     FIRST_VIA,
     VIA,

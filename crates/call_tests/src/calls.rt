@@ -1,13 +1,17 @@
 //! A call from its request on.
 use crate::holds::holds;
 use crate::recipients::{
-    CALLER, CANCELLING, FIRST, INVITE, INVITING, NO_VIA, OKAY, RINGING, SECOND, SETUP, message_of,
+    CALLER, CANCELLING, FIRST, INVITE, INVITING, NO_VIA, OKAY, RINGING, SECOND, SETUP, is_response,
+    message_of,
 };
 use crate::requests::{SOURCE, opening_of, setup_of};
-use call_table::Pending;
+use call_table::{Pending, Shelf};
 use fork_call::{Call, Cause, Datagram, PendingCall, Setup, Step, TakeFault, Taken, is_openable};
+use sip_uri::{Hop, Transport};
+use sip_via::own_branch;
 use std::alloc::Global;
 use std::process::Abort;
+use std::sync::Wait;
 
 /// The call that the INVITE opens as number 3, to the two branches of a setup.
 fn opened_by(alloc: Global, setup: &Setup<Global>) -> Option<Call> {
@@ -103,6 +107,8 @@ enum Turn {
     Rests,
     /// A message by its start line, its Via lines and its CSeq line is taken so.
     Takes(&'static [u8], (&'static [u8], &'static [u8]), &'static [u8], Result<Taken, TakeFault>),
+    /// Such a response is taken so, whose branch was read before.
+    Answers(&'static [u8], (&'static [u8], &'static [u8]), &'static [u8], Result<Taken, TakeFault>),
     /// A datagram of this cause could not be sent.
     Fails(Cause),
     /// So many events were posted.
@@ -134,6 +140,26 @@ fn takes(
     }
 }
 
+/// What comes of such a response, by the branch that its top Via value names.
+#[tactic(auto, using(crate::proofs::ReadBranch::read_so))]
+fn answered(
+    alloc: Global,
+    call: &mut Call,
+    now: u64,
+    start: &[u8],
+    vias: (&[u8], &[u8]),
+    cseq: &[u8],
+) -> Option<Result<Taken, TakeFault>> {
+    let response = message_of(alloc, start, vias, cseq)?;
+    if !is_response(&response) {
+        return None;
+    }
+    match own_branch(&response, call.own()) {
+        Some(branch) => Some(call.take_response(response, branch, SOURCE, now)),
+        None => None,
+    }
+}
+
 /// Whether a turn goes as it is told.
 fn goes(alloc: Global, call: &mut Call, now: u64, turn: Turn) -> bool {
     match turn {
@@ -143,6 +169,9 @@ fn goes(alloc: Global, call: &mut Call, now: u64, turn: Turn) -> bool {
         Turn::Rests => is_idle(call, now),
         Turn::Takes(start, vias, cseq, wanted) => {
             takes(alloc, call, now, start, vias, cseq, wanted)
+        }
+        Turn::Answers(start, vias, cseq, wanted) => {
+            answered(alloc, call, now, start, vias, cseq) == Some(wanted)
         }
         Turn::Fails(cause) => call.failed(cause, now).is_ok(),
         Turn::HasPosted(count) => call.book().history().len() == count,
@@ -219,7 +248,17 @@ const TAKING: &[Moment] = &[
         Turn::Takes(OKAY, (SECOND, CALLER), INVITING, Ok(Taken::Posted(2))),
         "the 200 comes again",
     ),
-    (20, Turn::HasPosted(3), "three events"),
+    (
+        20,
+        Turn::Answers(OKAY, (SECOND, CALLER), INVITING, Ok(Taken::Posted(3))),
+        "and again, its branch being known",
+    ),
+    (
+        20,
+        Turn::Answers(OKAY, (OTHER, CALLER), INVITING, Err(TakeFault::Stray)),
+        "the 200 of another call, its branch being known",
+    ),
+    (20, Turn::HasPosted(4), "four events"),
     (
         20,
         Turn::WaitsFor(0, Some(32_020)),
@@ -275,6 +314,13 @@ fn a_call_tells_strays_and_failures(rt: HostRuntime) {
 
 // ---- a call that is prepared before it has its number
 
+/// Where the answers to the caller go, whose Via value asks for no other port.
+const ANSWERED: Hop = Hop {
+    addr: [192, 0, 2, 1],
+    port: 5060,
+    transport: Transport::Udp,
+};
+
 /// Whether the next datagram of a call is this one, its cause apart.
 fn sends_like(call: &mut Call, wanted: &Datagram) -> bool {
     match next_sent(call, 0) {
@@ -314,6 +360,7 @@ fn a_prepared_call_is_the_one_that_opens(rt: HostRuntime) {
     match numbered(alloc) {
         Some(mut call) => {
             holds(&rt, call.number() == 3, "the number that it got");
+            holds(&rt, call.caller() == ANSWERED, "where the answers go");
             holds(
                 &rt,
                 begins_alike(alloc, &mut call),
@@ -335,4 +382,22 @@ fn is_given_back(alloc: Global) -> bool {
 #[test]
 fn a_call_that_is_not_kept_gives_its_request_back(rt: HostRuntime) {
     holds(&rt, is_given_back(rt.alloc()), "its INVITE");
+}
+
+/// Whether what the INVITE opens becomes the first call of a shelf, under a key that then is taken.
+fn is_put<R: Wait>(rt: &R, alloc: Global) -> bool {
+    let Ok(shelf) = Shelf::<Call>::new(alloc) else {
+        return false;
+    };
+    match (prepared(alloc), Vec::from_slice(alloc, b"a")) {
+        (Some(prepared), Ok(key)) => {
+            shelf.put_pending(rt, key, prepared).ok() == Some(0) && shelf.keyed(rt, b"a") == Some(0)
+        }
+        _ => false,
+    }
+}
+
+#[test]
+fn a_prepared_call_is_put_on_a_shelf(rt: HostRuntime) {
+    holds(&rt, is_put(&rt, rt.alloc()), "the first call");
 }

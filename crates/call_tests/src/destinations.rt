@@ -4,11 +4,13 @@ use crate::holds::holds;
 use crate::requests::{SETUP, request_with, setup_of};
 use fork_call::{admitted_target, read_target};
 use proxy_config::Setup;
-use proxy_routing::{candidates, hop_by, hop_if_any};
+use proxy_routing::{
+    CandidateTarget, asks_extension, candidates, have_hops, hop_by, hop_if_any, targets_of,
+};
 use sip_route::FirstRoute;
 use sip_text::Message;
 use sip_uri::{Hop, SipUri, Transport};
-use std::alloc::Global;
+use std::alloc::{AllocError, Global};
 
 // ---- the URI
 
@@ -237,4 +239,77 @@ fn ring_as_said(alloc: Global) -> bool {
 fn a_target_rings_as_long_as_is_said(rt: HostRuntime) {
     let well = ring_as_said(rt.alloc());
     holds(&rt, well, "how long the targets of a request ring");
+}
+
+// ---- the targets as a fork takes them
+
+/// Whether the one target is tried at q 1 by the key of this URI.
+fn is_taken(alloc: Global, found: &[CandidateTarget<'_, Global>], uri: &SipUri<Global>) -> bool {
+    match targets_of(alloc, found) {
+        Ok(targets) => match targets.as_slice() {
+            [target] => target.q() == 1000 && target.key() == uri.key(),
+            _ => false,
+        },
+        Err(_) => false,
+    }
+}
+
+/// Whether the one target of a request is this URI by that hop, and a fork takes it so.
+fn is_target(
+    alloc: Global,
+    found: Result<Vec<CandidateTarget<'_, Global>>, AllocError>,
+    uri: &SipUri<Global>,
+    hop: Hop,
+) -> bool {
+    let Ok(found) = found else {
+        return false;
+    };
+    match found.as_slice() {
+        [candidate] => {
+            have_hops(&found)
+                && candidate.hop() == Some(hop)
+                && candidate.uri().key() == uri.key()
+                && is_taken(alloc, &found, uri)
+        }
+        _ => false,
+    }
+}
+
+/// Whether a request to this URI, outside of the domain, has it as its one target.
+fn goes_to(alloc: Global, setup: &Setup<Global>, uri: &SipUri<Global>) -> bool {
+    let found = candidates(alloc, setup, false, FirstRoute::Absent, uri);
+    is_target(alloc, found, uri, BY_URI)
+}
+
+/// The same of the URI that leads to a host.
+fn goes_to_host(alloc: Global) -> bool {
+    match (
+        setup_of(alloc, SETUP),
+        SipUri::read(alloc, b"sip:bob@192.0.2.4"),
+    ) {
+        (Some(setup), Ok(uri)) => goes_to(alloc, &setup, &uri),
+        _ => false,
+    }
+}
+
+#[test]
+fn a_uri_outside_the_domain_is_the_one_target(rt: HostRuntime) {
+    holds(&rt, goes_to_host(rt.alloc()), "the target and its hop");
+}
+
+/// Whether a request with this line asks for an extension.
+fn asks(alloc: Global, line: &'static [u8]) -> Option<bool> {
+    match request_with(alloc, &[(7, line)]) {
+        Some(request) => Some(asks_extension(&request)),
+        None => None,
+    }
+}
+
+#[test]
+fn proxy_require_asks_for_an_extension(rt: HostRuntime) {
+    let alloc = rt.alloc();
+    let asked = asks(alloc, b"Proxy-Require: sec-agree");
+    holds(&rt, asked == Some(true), "an extension of the proxy");
+    let asked = asks(alloc, b"Require: sec-agree");
+    holds(&rt, asked == Some(false), "one of the telephone");
 }

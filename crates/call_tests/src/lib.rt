@@ -1,9 +1,11 @@
-//! Tests of the public calls of `call_branch`, `call_answers`, `call_state`, `proxy_config`, `proxy_routing`, `call_routing` and
+//! Tests of the public calls of `call_branch`, `call_caller`, `call_state`, `proxy_config`, `proxy_routing` and
 //! `fork_call`, in files and folders named for what is tested. They stand apart from these crates so that none of them is proved twice.
 #![tactic(auto)]
 
 #[cfg(test)]
 mod branches;
+#[cfg(test)]
+mod caller_side;
 #[cfg(test)]
 mod calls;
 #[cfg(test)]
@@ -19,6 +21,10 @@ mod laws;
 #[cfg(test)]
 mod looking;
 #[cfg(test)]
+mod one_branch;
+#[cfg(test)]
+mod opened_request;
+#[cfg(test)]
 mod opening;
 #[cfg(test)]
 mod places;
@@ -27,6 +33,10 @@ mod recipients;
 #[cfg(test)]
 mod requests;
 #[cfg(test)]
+mod response_classes;
+#[cfg(test)]
 mod setup;
+#[cfg(test)]
+mod setup_lines;
 #[cfg(test)]
 mod state;

@@ -13,7 +13,7 @@ use call_state::CallState;
 use sip_via::BranchName;
 
 /// What names the second branch of the call.
-const SECOND_NAME: BranchName = BranchName {
+pub(crate) const SECOND_NAME: BranchName = BranchName {
     key: [
         0x8c, 0x31, 0xe7, 0x1e, 0x0d, 0xdb, 0xf1, 0xa0, 0xe5, 0x6f, 0x5f, 0x02, 0x79, 0x99, 0x08,
         0x57,
@@ -146,4 +146,12 @@ fn the_side_of_the_caller_tells_its_moments(rt: HostRuntime) {
         state.server_due().is_none() && state.is_server_over(),
         "the transaction is over",
     );
+}
+
+#[test]
+fn a_call_that_is_not_to_be_gives_its_request_back(rt: HostRuntime) {
+    match begun(rt.alloc(), &INVITE) {
+        Some(state) => holds(&rt, state.into_request().is_invite(), "its INVITE"),
+        None => holds(&rt, false, "an INVITE begins"),
+    }
 }

@@ -1,9 +1,9 @@
 //! Which requests are admitted and open a call, and how each fault is answered.
 use crate::holds::holds;
 use crate::requests::{
-    Change, OWN, REQUEST, SETUP, SOURCE, opened, opened_by, read_message, request_with, sent_to,
-    setup_of, text_of,
+    Change, OWN, SETUP, SOURCE, opened, opened_by, read_message, request_with, sent_to, setup_of,
 };
+use call_messages::lines::{REQUEST, text_of};
 use call_model::{Cause, Datagram, TriedContacts};
 use call_state::CallState;
 use fork_call::is_openable;

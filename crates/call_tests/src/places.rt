@@ -32,7 +32,7 @@ const PLACES: [(u16, Option<usize>); 7] = [
 ];
 
 /// The bytes of a text.
-fn bytes_of(alloc: Global, text: &[u8]) -> Option<Vec<u8>> {
+pub(crate) fn bytes_of(alloc: Global, text: &[u8]) -> Option<Vec<u8>> {
     match Vec::from_slice(alloc, text) {
         Ok(bytes) => Some(bytes),
         Err(_) => None,

@@ -1,9 +1,14 @@
 //! Which transaction of a call a message is for.
+ghost use Rattle.std.specs.Prelude.{◌≡◌};
+ghost use Rattle.call_state.specs.Kinds.{is_response};
+
 use crate::holds::holds;
-use crate::requests::{opened, sent_to, setup_of, text_of};
-use call_state::{CallState, MatchedTransaction, match_transaction};
+use crate::requests::{opened, sent_to, setup_of};
+use call_messages::lines::text_of;
+use call_state::{CallState, MatchedTransaction, match_response, match_transaction};
 use proxy_config::Setup;
-use sip_text::Message;
+use sip_text::{Message, StartLine};
+use sip_via::own_branch;
 use std::alloc::Global;
 use std::process::Abort;
 
@@ -104,10 +109,42 @@ type Addressed = (
     Option<MatchedTransaction>,
 );
 
+/// Whether a message is a response.
+pub(crate) fn is_response(message: &Message<Global>) -> bool
+    ensures { result ≡ is_response message.now.start }
+{
+    match message.start() {
+        StartLine::Request { .. } => false,
+        StartLine::Response { .. } => true,
+    }
+}
+
+/// What a response is for by the branch that its top Via value names, if it is a response and that names one of the proxy's.
+#[tactic(auto, using(crate::proofs::ReadBranch::read_so))]
+fn by_branch(state: &CallState, response: &Message<Global>) -> Option<MatchedTransaction> {
+    if !is_response(response) {
+        return None;
+    }
+    match own_branch(response, state.opened().own()) {
+        Some(branch) => match_response(state, response, branch),
+        None => None,
+    }
+}
+
+/// Whether a response is for this transaction, as it stands and by its branch. A request is for it as it stands.
+fn is_message_for(
+    state: &CallState,
+    message: &Message<Global>,
+    wanted: Option<MatchedTransaction>,
+) -> bool {
+    match_transaction(state, message) == wanted
+        && (!is_response(message) || by_branch(state, message) == wanted)
+}
+
 /// Whether a message is for what it is to be for.
 fn is_for(alloc: Global, state: &CallState, message: &Addressed) -> bool {
     match message_of(alloc, message.0, message.1, message.2) {
-        Some(read) => match_transaction(state, &read) == message.3,
+        Some(read) => is_message_for(state, &read, message.3),
         None => false,
     }
 }

@@ -1,6 +1,7 @@
 //! A setup, a request of one of its users, and the call that it opens.
 ghost use Rattle.std.specs.Prelude.{◌≡◌};
 
+use call_messages::lines::{REQUEST, text_of};
 use call_model::Datagram;
 use call_state::CallState;
 use fork_call::{OpeningRequest, is_openable, open};
@@ -29,19 +30,6 @@ pub const OWN: Own = Own {
 pub const SETUP: &[u8] =
     b"own 192.0.2.9 5060\ninstance 7\ndomain example.com\nlocation bob 1000 sip:bob@192.0.2.4\n";
 
-/// A request, line by line.
-pub const REQUEST: [&[u8]; 9] = [
-    b"OPTIONS sip:bob@example.com SIP/2.0",
-    b"v: SIP/2.0/UDP 192.0.2.1:5060;branch=z9hG4bKa;rport",
-    b"Max-Forwards: 70",
-    b"f: <sip:alice@example.com>;tag=1",
-    b"t: <sip:bob@example.com>",
-    b"i: c1",
-    b"CSeq: 1 OPTIONS",
-    b"l: 0",
-    b"",
-];
-
 /// Another line of the request, by its index.
 pub type Change = (usize, &'static [u8]);
 
@@ -50,30 +38,6 @@ pub fn setup_of(alloc: Global, text: &[u8]) -> Option<Setup<Global>> {
     match Setup::read(alloc, text) {
         Ok(setup) => Some(setup),
         Err(_) => None,
-    }
-}
-
-/// Puts a line behind a text, and says whether there was memory for it.
-fn add_line(text: &mut Vec<u8>, line: &[u8]) -> bool {
-    text.extend_from_slice(line).is_ok() && text.extend_from_slice(b"\r\n").is_ok()
-}
-
-/// The same of these lines.
-fn add_lines(text: &mut Vec<u8>, lines: &[&[u8]]) -> bool {
-    let mut well = true;
-    for line in lines {
-        well = well && add_line(text, line);
-    }
-    well
-}
-
-/// The text of these lines.
-pub fn text_of(alloc: Global, lines: &[&[u8]]) -> Option<Vec<u8>> {
-    let mut text = Vec::new(alloc);
-    if add_lines(&mut text, lines) {
-        Some(text)
-    } else {
-        None
     }
 }
 

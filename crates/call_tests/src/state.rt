@@ -8,6 +8,7 @@ ghost use Rattle.call_model.specs.Sound.{IsSound};
 use crate::holds::holds;
 use call_branch::{Destination, OpenedRequest, Opening, is_redirection, response_status};
 use call_caller::PendingResponse;
+use call_messages::lines::text_of;
 use call_model::{
     Cause, Datagram, Step, Taken, TriedContacts, branches_keep_their_answers, calls_stay_sound,
 };
@@ -22,7 +23,7 @@ use sip_via::Own;
 use std::alloc::{AllocError, Global};
 
 /// The proxy's own address.
-const OWN: Own = Own {
+pub(crate) const OWN: Own = Own {
     addr: [192, 0, 2, 9],
     port: 5060,
     transport: Transport::Udp,
@@ -230,7 +231,7 @@ const CANCEL: [&[u8]; 9] = [
 
 // ---- how the parts begin
 
-pub(crate) use crate::requests::{message_of, text_of};
+pub(crate) use crate::requests::message_of;
 
 /// Whether a value is one to three digits of 1 to 255.
 fn are_hops(value: &[u8]) -> bool
@@ -276,7 +277,7 @@ fn fixed_by(request: Message<Global>) -> Option<OpenedRequest> {
 }
 
 /// What the call of the request of these lines is opened with.
-fn opened_of(alloc: Global, lines: &[&[u8]]) -> Option<OpenedRequest> {
+pub(crate) fn opened_of(alloc: Global, lines: &[&[u8]]) -> Option<OpenedRequest> {
     fixed_by(message_of(alloc, lines)?)
 }
 

@@ -1,7 +1,8 @@
 //! ACKs that no call takes.
 use crate::holds::holds;
 use crate::outbox::Outbox;
-use crate::texts::{CALL_ID, FROM, MARKED, TAGGED, VIA, lines_become_alone, text_of};
+use crate::texts::lines_become_alone;
+use call_messages::lines::{CALL_ID, FROM, MARKED, TAGGED, VIA, text_of};
 use proxy_dispatch::Handled;
 use sip_uri::{Hop, Transport};
 use std::alloc::Global;

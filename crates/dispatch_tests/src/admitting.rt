@@ -1,7 +1,8 @@
 //! Requests that may open calls: of which it is asked whether they are admitted, what becomes of them, and what is told then.
 use crate::holds::holds;
 use crate::outbox::Outbox;
-use crate::texts::{CALL_ID, FROM, MARKED, SOURCE, TAGGED, TO, VIA, setup_of, shelf_of, text_of};
+use crate::texts::{SOURCE, setup_of, shelf_of};
+use call_messages::lines::{CALL_ID, FROM, MARKED, TAGGED, TO, VIA, text_of};
 use call_table::Shelf;
 use fork_call::{Call, Setup};
 use proxy_dispatch::{Admission, Handled, Opener, Received, SharedCalls, handle};

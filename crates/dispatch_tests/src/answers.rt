@@ -1,9 +1,8 @@
 //! Which requests are answered without a call, and with which datagram; and which texts are dropped.
 use crate::holds::holds;
 use crate::outbox::Outbox;
-use crate::texts::{
-    CALL_ID, Edit, FROM, MARKED, SOURCE, TAGGED, becomes_alone, lines_become_alone, text_of,
-};
+use crate::texts::{Edit, SOURCE, becomes_alone, lines_become_alone};
+use call_messages::lines::{CALL_ID, FROM, MARKED, TAGGED, text_of};
 use proxy_dispatch::Handled;
 use sip_uri::{Hop, Transport};
 use std::alloc::Global;

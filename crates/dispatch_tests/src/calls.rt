@@ -3,9 +3,8 @@ ghost use Rattle.std.specs.Prelude.{◌≡◌, IfSome};
 
 use crate::holds::holds;
 use crate::outbox::Outbox;
-use crate::texts::{
-    CALL_ID, Edit, FROM, MARKED, SOURCE, becomes, lines_become, request_of, setup_of, shelf_of,
-};
+use crate::texts::{Edit, SOURCE, becomes, lines_become, request_of, setup_of, shelf_of};
+use call_messages::lines::{CALL_ID, FROM, MARKED};
 use call_table::{Shelf, ShelfFault};
 use fork_call::{Call, Setup, carry, is_openable};
 use proxy_dispatch::{Handled, ReceivedMessage, SharedCalls, Unlimited, handle_message};

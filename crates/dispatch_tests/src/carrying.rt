@@ -1,7 +1,8 @@
 //! Calls on a shelf: what they are fed, what they send, and what was posted to them.
 ghost use Rattle.std.specs.Prelude.{◌≡◌};
 
-use crate::texts::{SOURCE, text_of};
+use crate::texts::SOURCE;
+use call_messages::lines::text_of;
 use call_table::Shelf;
 use fork_call::{Call, Port, Setup, carry};
 use fork_context::Event;

@@ -1,7 +1,8 @@
 //! What becomes of datagrams where a send fails (RFC 3261 sections 16.9, 17.1.4 and 17.2.4).
 use crate::carrying::{posted, serves_lines};
 use crate::holds::holds;
-use crate::texts::{CALL_ID, FROM, MARKED, TO, VIA, setup_of, shelf_of};
+use crate::texts::{setup_of, shelf_of};
+use call_messages::lines::{CALL_ID, FROM, MARKED, TO, VIA};
 use call_table::Shelf;
 use fork_call::{Call, Cause, Datagram, Port, Setup};
 use proxy_dispatch::Handled;

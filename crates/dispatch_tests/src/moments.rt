@@ -3,7 +3,8 @@ ghost use Rattle.std.specs.Prelude.{◌≡◌};
 
 use crate::holds::holds;
 use crate::outbox::Outbox;
-use crate::texts::{CALL_ID, FROM, MARKED, becomes, lines_become, setup_of, shelf_of};
+use crate::texts::{becomes, lines_become, setup_of, shelf_of};
+use call_messages::lines::{CALL_ID, FROM, MARKED};
 use call_table::{Schedule, Shelf};
 use fork_call::{Call, Carried, carry};
 use proxy_dispatch::Handled;

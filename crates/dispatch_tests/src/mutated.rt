@@ -1,7 +1,8 @@
 //! Each text that is almost the request: where it is cut short, and where one of its bytes is another.
 use crate::holds::holds;
 use crate::outbox::Outbox;
-use crate::texts::{REQUEST, request_of, setup_of, shelf_of, text_becomes};
+use crate::texts::{request_of, setup_of, shelf_of, text_becomes};
+use call_messages::lines::REQUEST;
 use call_table::Shelf;
 use fork_call::{Call, Setup};
 use proxy_dispatch::Handled;

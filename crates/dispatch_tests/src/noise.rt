@@ -2,7 +2,8 @@
 use crate::carrying::{carries, serves};
 use crate::holds::holds;
 use crate::outbox::Outbox;
-use crate::texts::{FROM, SOURCE, TO, setup_of, text_of};
+use crate::texts::{SOURCE, setup_of};
+use call_messages::lines::{FROM, TO, text_of};
 use call_table::Shelf;
 use fork_call::{Call, Datagram, Port, Setup};
 use proxy_dispatch::Handled;

@@ -2,7 +2,8 @@
 use crate::carrying::serves_lines;
 use crate::holds::holds;
 use crate::outbox::Outbox;
-use crate::texts::{CALL_ID, FROM, VIA, setup_of, shelf_of};
+use crate::texts::{setup_of, shelf_of};
+use call_messages::lines::{CALL_ID, FROM, VIA};
 use call_table::Shelf;
 use fork_call::{Call, Setup};
 use proxy_dispatch::Handled;

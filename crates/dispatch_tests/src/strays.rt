@@ -2,7 +2,8 @@
 use crate::carrying::{posted, serves, serves_lines};
 use crate::holds::holds;
 use crate::outbox::Outbox;
-use crate::texts::{CALL_ID, FROM, MARKED, REQUEST, TO, VIA, setup_of, text_of};
+use crate::texts::setup_of;
+use call_messages::lines::{CALL_ID, FROM, MARKED, REQUEST, TO, VIA, text_of};
 use call_table::Shelf;
 use fork_call::{Call, Setup};
 use proxy_dispatch::Handled;

@@ -1,5 +1,6 @@
 //! A setup, a request and its parts, as texts.
 use crate::outbox::Outbox;
+use call_messages::lines::{REQUEST, add_line, text_of};
 use call_table::Shelf;
 use fork_call::{Call, Setup};
 use proxy_dispatch::{Handled, Received, SharedCalls, Unlimited, handle};
@@ -18,35 +19,6 @@ pub const SOURCE: Hop = Hop {
 const SETUP: &[u8] =
     b"own 192.0.2.9 5060\ninstance 7\ndomain example.com\nlocation bob 1000 sip:bob@192.0.2.4\n";
 
-/// The lines that its answers have from a request.
-pub const FROM: &[u8] = b"f: <sip:alice@example.com>;tag=1";
-
-pub const TO: &[u8] = b"t: <sip:bob@example.com>";
-
-pub const CALL_ID: &[u8] = b"i: c1";
-
-/// Its To line with the proxy's own tag.
-pub const TAGGED: &[u8] = b"t: <sip:bob@example.com>;tag=fpa54465d48fc852fc";
-
-/// Its Via line, and the same with its source.
-pub const VIA: &[u8] = b"v: SIP/2.0/UDP 192.0.2.1:5060;branch=z9hG4bKa;rport";
-
-pub const MARKED: &[u8] =
-    b"v: SIP/2.0/UDP 192.0.2.1:5060;branch=z9hG4bKa;rport=40000;received=192.0.2.1";
-
-/// A request, line by line.
-pub const REQUEST: [&[u8]; 9] = [
-    b"OPTIONS sip:bob@example.com SIP/2.0",
-    VIA,
-    b"Max-Forwards: 70",
-    FROM,
-    TO,
-    CALL_ID,
-    b"CSeq: 1 OPTIONS",
-    b"l: 0",
-    b"",
-];
-
 /// A line in the place of one of the request's.
 pub type Edit<'a> = (usize, &'a [u8]);
 
@@ -55,30 +27,6 @@ pub fn setup_of(alloc: Global) -> Option<Setup<Global>> {
     match Setup::read(alloc, SETUP) {
         Ok(setup) => Some(setup),
         Err(_) => None,
-    }
-}
-
-/// Puts a line behind a text, and says whether there was memory for it.
-fn add_line(text: &mut Vec<u8>, line: &[u8]) -> bool {
-    text.extend_from_slice(line).is_ok() && text.extend_from_slice(b"\r\n").is_ok()
-}
-
-/// The same of these lines.
-fn add_lines(text: &mut Vec<u8>, lines: &[&[u8]]) -> bool {
-    let mut well = true;
-    for line in lines {
-        well = well && add_line(text, line);
-    }
-    well
-}
-
-/// The text of these lines.
-pub fn text_of(alloc: Global, lines: &[&[u8]]) -> Option<Vec<u8>> {
-    let mut text = Vec::new(alloc);
-    if add_lines(&mut text, lines) {
-        Some(text)
-    } else {
-        None
     }
 }
 

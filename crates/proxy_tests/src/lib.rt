@@ -1,4 +1,4 @@
-//! Tests of the commands of `fork_program` and `fork_drive`. They stand apart from these so that neither is proved twice.
+//! Tests of the commands of `fork_program` and `fork_engine`. They stand apart from these so that neither is proved twice.
 #![tactic(auto)]
 
 #[cfg(test)]
@@ -21,6 +21,8 @@ mod laws;
 mod limits;
 #[cfg(test)]
 mod play;
+#[cfg(test)]
+mod printing;
 #[cfg(test)]
 mod refused;
 #[cfg(test)]

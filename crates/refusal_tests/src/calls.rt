@@ -1,13 +1,14 @@
 //! Whole calls, each of whose steps is made again until it meets no refusal.
 use crate::answers::{Judge, answered, discard, judged};
-use crate::fork_texts::FORK_SETUP;
 use crate::plays::{calls, plays};
 use crate::port::Comparing;
 use crate::sources::{Alloc, read};
+use call_messages::five_targets::FORK_SETUP;
+use call_messages::histories::{CANCELLED, FAILING, Moment, Turn};
 use call_messages::one_target::{
     ACK_SENT, CALLER, CANCEL, CANCEL_OK, CANCEL_SENT, FAULT_UP, INVITE, INVITE_SENT, OPTIONS,
-    OPTIONS_FAULT_UP, OPTIONS_NOT_FOUND, OPTIONS_NOT_FOUND_OF_FIVE, OPTIONS_NOT_FOUND_UP,
-    OPTIONS_SENT, RINGING, RINGING_UP, SETUP, TARGET, TERMINATED, TERMINATED_UP, TRYING,
+    OPTIONS_FAULT_UP, OPTIONS_NOT_FOUND, OPTIONS_NOT_FOUND_UP, OPTIONS_SENT, RINGING, RINGING_UP,
+    SETUP, TARGET, TERMINATED, TERMINATED_UP, TRYING,
 };
 use call_messages::{Sent, is_sent};
 use failing_allocator::{Attempt, Heap, Play, Repeated, Stateless};
@@ -96,29 +97,6 @@ impl Stateless for Opening {
         judged(heap, self, opened(heap, *self), Attempt::NoMemory)
     }
 }
-
-/// What happens to a call, and what comes of it.
-#[derive(Clone, Copy)]
-pub enum Turn {
-    /// This message comes from there, and is taken so.
-    Takes(Hop, &'static [u8], Result<Taken, TakeFault>),
-    /// The next thing that is due sends this datagram.
-    Sends(&'static Sent),
-    /// The next thing that is due sends nothing.
-    Does,
-    /// Nothing is due before this moment; where there is none, the call is over.
-    Waits(Option<u64>),
-    /// A datagram of this cause could not be sent.
-    Fails(Cause),
-    /// This message comes from there, of this branch if any, and is posted; but where the request of the branch was lost, it
-    /// changes nothing.
-    Comes(Option<u16>, Hop, &'static [u8]),
-    /// The call is carried, and the next so many datagrams of those wanted are sent.
-    Carries(usize),
-}
-
-/// A moment in milliseconds, and what happens then.
-pub type Moment = (u64, Turn);
 
 fn sends(step: &Step<Alloc<'_>>, wanted: &Sent) -> bool {
     match step {
@@ -300,31 +278,6 @@ impl Play for History {
     }
 }
 
-/// An OPTIONS request whose target answers 404, and that again.
-const FAILING: &[Moment] = &[
-    (0, Turn::Sends(&OPTIONS_SENT)),
-    (0, Turn::Waits(Some(500))),
-    (
-        20,
-        Turn::Takes(TARGET, OPTIONS_NOT_FOUND, Ok(Taken::Posted(0))),
-    ),
-    (20, Turn::Sends(&OPTIONS_NOT_FOUND_UP)),
-    (20, Turn::Waits(Some(5020))),
-    (
-        30,
-        Turn::Takes(TARGET, OPTIONS_NOT_FOUND, Ok(Taken::Absorbed)),
-    ),
-    (
-        30,
-        Turn::Takes(TARGET, OPTIONS_NOT_FOUND_OF_FIVE, Err(TakeFault::Stray)),
-    ),
-    (40, Turn::Takes(CALLER, OPTIONS, Ok(Taken::Absorbed))),
-    (40, Turn::Sends(&OPTIONS_NOT_FOUND_UP)),
-    (5020, Turn::Does),
-    (32_020, Turn::Does),
-    (32_020, Turn::Waits(None)),
-];
-
 /// An OPTIONS request that cannot be sent, of which the call is told twice: the final answer is owed then, and the 404 of
 /// the target changes nothing. Nor can that answer be sent.
 const LOST: &[Moment] = &[
@@ -372,28 +325,7 @@ const NEVER_SENT: &[Moment] = &[
     (32_010, Turn::Waits(None)),
 ];
 
-/// An INVITE that the caller cancels before the target rings.
-const CANCELLED: &[Moment] = &[
-    (0, Turn::Sends(&TRYING)),
-    (0, Turn::Sends(&INVITE_SENT)),
-    (0, Turn::Waits(Some(500))),
-    (10, Turn::Takes(CALLER, CANCEL, Ok(Taken::Posted(0)))),
-    (10, Turn::Sends(&CANCEL_OK)),
-    (10, Turn::Waits(Some(500))),
-    (20, Turn::Takes(TARGET, RINGING, Ok(Taken::Posted(1)))),
-    (20, Turn::Sends(&RINGING_UP)),
-    (20, Turn::Sends(&CANCEL_SENT)),
-    (20, Turn::Waits(Some(520))),
-    (30, Turn::Takes(TARGET, TERMINATED, Ok(Taken::Posted(2)))),
-    (30, Turn::Sends(&TERMINATED_UP)),
-    (30, Turn::Sends(&ACK_SENT)),
-    (30, Turn::Waits(Some(520))),
-    (32_020, Turn::Sends(&TERMINATED_UP)),
-    (32_020, Turn::Does),
-    (32_020, Turn::Waits(Some(32_030))),
-];
-
-/// The same, where every datagram turns out to be lost: that is no fault of a branch which has answered.
+/// An INVITE that is cancelled, where every datagram turns out to be lost: that is no fault of a branch which has answered.
 const ALL_LOST: &[Moment] = &[
     (0, Turn::Sends(&TRYING)),
     (0, Turn::Sends(&INVITE_SENT)),

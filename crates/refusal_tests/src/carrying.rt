@@ -1,12 +1,13 @@
 //! Calls that are carried while memory is refused and sends fail: the steps before a refusal stand, and a carry goes on where
 //! it was refused.
-use crate::calls::{History, Moment, Turn};
-use crate::fork_texts::{
+use crate::calls::History;
+use crate::plays::{holds, plays};
+use crate::wanted;
+use call_messages::five_targets::{
     FIFTH, FIFTH_NOT_FOUND, FORK_SETUP, FOURTH, FOURTH_RINGS, FOURTH_TERMINATED, SECOND,
     SECOND_RINGS, SECOND_TERMINATED, THIRD, THIRD_RINGS, THIRD_TERMINATED,
 };
-use crate::plays::{holds, plays};
-use crate::wanted;
+use call_messages::histories::{Moment, Turn};
 use call_messages::one_target::{
     ACK, CALLER, CANCEL, INVITE, NOT_FOUND, OPTIONS, OPTIONS_NOT_FOUND, OPTIONS_NOT_FOUND_OF_FIVE,
     RINGING, SETUP, TARGET, TERMINATED,

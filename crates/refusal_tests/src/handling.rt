@@ -5,7 +5,7 @@ use crate::answers::discard;
 use crate::calls::set_up;
 use crate::plays::plays;
 use crate::sources::Alloc;
-use call_messages::one_target::{ACK, CALLER, CANCEL, INVITE, OPTIONS, SETUP, TARGET};
+use call_messages::one_target::{ACK, CALLER, CANCEL, INVITE, OPTIONS, OWN_ACK, SETUP, TARGET};
 use call_table::Shelf;
 use failing_allocator::{Attempt, Heap, Play, Repeated};
 use fork_call::{Call, Datagram, Port, Setup, carry};
@@ -107,17 +107,6 @@ f: <sip:alice@example.com>;tag=1\r\n\
 t: <sip:bob@example.com>;tag=9\r\n\
 i: c1\r\n\
 CSeq: 1 INVITE\r\n\
-l: 0\r\n\
-\r\n";
-
-/// An ACK of the caller that has the proxy's own tag.
-const OWN_ACK: &[u8] = b"ACK sip:bob@example.com SIP/2.0\r\n\
-v: SIP/2.0/UDP 192.0.2.1:5060;branch=z9hG4bKa;rport\r\n\
-Max-Forwards: 70\r\n\
-f: <sip:alice@example.com>;tag=1\r\n\
-t: <sip:bob@example.com>;tag=fpa54465d48fc852fc\r\n\
-i: c1\r\n\
-CSeq: 1 ACK\r\n\
 l: 0\r\n\
 \r\n";
 

@@ -13,8 +13,6 @@ mod carrying;
 #[cfg(test)]
 mod contexts;
 #[cfg(test)]
-mod fork_texts;
-#[cfg(test)]
 mod forks;
 #[cfg(test)]
 mod growths;

@@ -1,49 +1,28 @@
 //! A call whose target sends it elsewhere, and one that a redirection ends, each of whose steps is made again until it meets no
 //! refusal: contacts become rows, challenges are added to the final answer, and contacts that were not tried are left in it (RFC
 //! 3261 sections 16.5 and 16.7 steps 4 and 7).
-use crate::calls::{Moment, Turn, goes};
+use crate::calls::goes;
 use call_messages::Sent;
+use call_messages::histories::{Moment, Turn};
 use call_messages::one_target::{ACK_SENT, CALLER, INVITE, INVITE_SENT, TARGET, TRYING};
 use call_messages::redirecting::{
-    MOVED, OTHER, OTHER_ACK_SENT, OTHER_INVITE, OTHER_MOVED, OTHER_MOVED_UP, OTHER_SENT,
-    OTHER_TRYING,
+    CONTACT, CONTACT_SENT, MOVED, OTHER, OTHER_ACK_SENT, OTHER_INVITE, OTHER_MOVED, OTHER_MOVED_UP,
+    OTHER_SENT, OTHER_TRYING,
 };
 use fork_call::{Cause, Taken};
 use sip_uri::{Hop, Transport};
 
 // ---- an INVITE for the domain: two contacts are tried, and each asks for credentials
 
-/// Where the first contact leads, and the second.
-const FIRST: Hop = Hop {
-    addr: [192, 0, 2, 8],
-    port: 5070,
-    transport: Transport::Udp,
-};
-
+/// Where the other contact leads.
 const SECOND: Hop = Hop {
     addr: [192, 0, 2, 7],
     port: 5060,
     transport: Transport::Udp,
 };
 
-/// The INVITE as it goes to the contact of the higher q.
-const FIRST_SENT: Sent = Sent {
-    cause: Cause::Request(1),
-    to: FIRST,
-    text: b"INVITE sip:dave@192.0.2.8:5070 SIP/2.0\r\n\
-Via: SIP/2.0/UDP 192.0.2.9:5060;branch=z9hG4bK8c31e71e0ddbf1a0e56f5f0279990857.7.3.1\r\n\
-v: SIP/2.0/UDP 192.0.2.1:5060;branch=z9hG4bKa;rport=40000;received=192.0.2.1\r\n\
-Max-Forwards: 69\r\n\
-f: <sip:alice@example.com>;tag=1\r\n\
-t: <sip:bob@example.com>\r\n\
-i: c1\r\n\
-CSeq: 1 INVITE\r\n\
-l: 0\r\n\
-\r\n",
-};
-
-/// That one's 401.
-const FIRST_ASKS: &[u8] = b"SIP/2.0 401 Unauthorized\r\n\
+/// The 401 of the contact of the higher q.
+const CONTACT_ASKS: &[u8] = b"SIP/2.0 401 Unauthorized\r\n\
 Via: SIP/2.0/UDP 192.0.2.9:5060;branch=z9hG4bK8c31e71e0ddbf1a0e56f5f0279990857.7.3.1\r\n\
 v: SIP/2.0/UDP 192.0.2.1:5060;branch=z9hG4bKa;rport=40000;received=192.0.2.1\r\n\
 f: <sip:alice@example.com>;tag=1\r\n\
@@ -55,9 +34,9 @@ l: 0\r\n\
 \r\n";
 
 /// The ACK to that.
-const FIRST_ACK: Sent = Sent {
+const CONTACT_ACK: Sent = Sent {
     cause: Cause::Ack(1),
-    to: FIRST,
+    to: CONTACT,
     text: b"ACK sip:dave@192.0.2.8:5070 SIP/2.0\r\n\
 Via: SIP/2.0/UDP 192.0.2.9:5060;branch=z9hG4bK8c31e71e0ddbf1a0e56f5f0279990857.7.3.1\r\n\
 Max-Forwards: 70\r\n\
@@ -134,10 +113,10 @@ const ASKED: &[Moment] = &[
     (0, Turn::Sends(&INVITE_SENT)),
     (20, Turn::Takes(TARGET, MOVED, Ok(Taken::Posted(0)))),
     (20, Turn::Sends(&ACK_SENT)),
-    (20, Turn::Sends(&FIRST_SENT)),
+    (20, Turn::Sends(&CONTACT_SENT)),
     (20, Turn::Waits(Some(520))),
-    (30, Turn::Takes(FIRST, FIRST_ASKS, Ok(Taken::Posted(1)))),
-    (30, Turn::Sends(&FIRST_ACK)),
+    (30, Turn::Takes(CONTACT, CONTACT_ASKS, Ok(Taken::Posted(1)))),
+    (30, Turn::Sends(&CONTACT_ACK)),
     (30, Turn::Sends(&SECOND_SENT)),
     (30, Turn::Waits(Some(530))),
     (40, Turn::Takes(SECOND, SECOND_ASKS, Ok(Taken::Posted(2)))),

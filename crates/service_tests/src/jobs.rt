@@ -98,6 +98,24 @@ fn the_end_waits_for_room(rt: HostRuntime) -> Result<(), Fail> {
     Ok(())
 }
 
+// A job is done once the worker asks for the next one.
+#[test]
+fn a_job_is_done_once_the_next_is_asked_for(rt: HostRuntime) -> Result<(), Fail> {
+    let waker = Waker::new();
+    let (giving, receiving) = Inbox::new(rt.alloc())?;
+    let mut sender = JobSender::new(giving, &waker);
+    let mut receiver = JobReceiver::new(receiving, &waker);
+    let given = sender.give(&rt, Job::Tick(0)).is_ok() && sender.give(&rt, Job::Finish).is_ok();
+    holds(&rt, given && sender.last() == 2, "two jobs were given");
+    holds(&rt, ticks(&rt, &mut receiver, 0), "the first comes");
+    holds(&rt, sender.held() == 1, "one is left");
+    holds(&rt, !sender.has_done(1), "the first is in work");
+    let ended = matches!(receiver.receive(&rt), Job::Finish);
+    holds(&rt, ended && sender.has_done(1), "the first is done");
+    holds(&rt, !sender.has_done(2), "the second is in work");
+    Ok(())
+}
+
 /// Gives this tick and those after it up to `ROUNDS`, each once there is room, then the end job. Says how many were refused.
 fn give_all<R: Wait>(rt: &R, mut sender: JobSender<'_, Job>, first: u64) -> u64 {
     let mut refused = 0u64;

@@ -30,6 +30,8 @@ mod jobs;
 #[cfg(test)]
 mod journal;
 #[cfg(test)]
+mod lifetime;
+#[cfg(test)]
 mod limits;
 #[cfg(test)]
 mod parts;

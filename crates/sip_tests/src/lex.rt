@@ -2,9 +2,9 @@
 use crate::bytes::{has, holds_of, is};
 use crate::holds::holds;
 use sip_lex::{
-    Shelter, are_digits, cut_at, cut_at_space, cut_near, cut_outside, cut_quoted, cut_token,
-    first_line, hex_digit, hex_value, is_closed, is_space, is_token, lowered, read_number,
-    read_plain_number, trim, trim_end, trim_start,
+    Growing, Shelter, Short, are_digits, cut_at, cut_at_space, cut_near, cut_outside, cut_quoted,
+    cut_token, first_line, hex_digit, hex_value, is_closed, is_space, is_token, lowered,
+    read_number, read_plain_number, tag_of, trim, trim_end, trim_start,
 };
 use std::alloc::Global;
 use std::process::Abort;
@@ -230,4 +230,37 @@ fn keeps_to_quotes_and_brackets(rt: HostRuntime) {
         is_closed(b"<a", Shelter::Quotes),
         "brackets do not count beside quotes",
     );
+}
+
+/// Values of From or To, and the tag of each, if it has one.
+const TAGS: [(&[u8], Option<&[u8]>); 5] = [
+    (b"<sip:bob@example.com>;tag=9", Some(b"9")),
+    (b"sip:bob@example.com;tag=9", Some(b"9")),
+    (
+        b"\"<;tag=1>\" <sip:bob@example.com;tag=2>;x=1;tag=3",
+        Some(b"3"),
+    ),
+    (b"<sip:bob@example.com>", None),
+    (b"<sip:bob@example.com>;tag=", None),
+];
+
+#[test]
+fn a_tag_stands_behind_the_address(rt: HostRuntime) {
+    for (value, tag) in TAGS {
+        holds_of(&rt, tag_of(value) == tag, "the tag of a value", value);
+    }
+}
+
+/// Whether pieces stand one behind another in a short text, which has no room for one that is too long.
+fn grows_while_there_is_room() -> bool {
+    let mut short = Short::new();
+    let is_empty = short.as_slice().is_empty();
+    let grows = short.add(b"ab").is_ok() && short.add(b"c").is_ok();
+    let is_full = short.add(&[b'x'; 254]).is_err();
+    is_empty && grows && is_full && is(short.as_slice(), b"abc")
+}
+
+#[test]
+fn a_short_text_grows_while_there_is_room(rt: HostRuntime) {
+    holds(&rt, grows_while_there_is_room(), "three of 256 bytes");
 }

@@ -1,47 +1,21 @@
 //! A call to two targets that both accept: each 200 goes up, also one that comes again (RFC 3261 sections 13.2.2.4, 16.7 and
 //! 17.1.1, as RFC 6026 has them).
-use crate::histories::playing::{Entry, Moment, Posted, Turn, goes_so};
+use crate::histories::playing::{Entry, Posted, goes_so};
 use crate::holds::holds;
 use call_messages::Sent;
-use call_messages::one_target::{CALLER, INVITE, TRYING};
+use call_messages::five_targets::{
+    SECOND, SECOND_ACCEPTS, SECOND_CANCEL, SECOND_RINGS, SECOND_RINGS_UP, SECOND_SENT,
+};
+use call_messages::histories::{Moment, Turn};
+use call_messages::one_target::{CALLER, INVITE, INVITE_SENT, TARGET, TRYING};
 use fork_call::{Cause, TakeFault, Taken};
 use fork_context::Up;
-use sip_uri::{Hop, Transport};
 
 /// The targets of bob, both tried at once.
-const ONE_GROUP: &[u8] = b"own 192.0.2.9 5060\ninstance 7\ndomain example.com\n\
+pub const ONE_GROUP: &[u8] = b"own 192.0.2.9 5060\ninstance 7\ndomain example.com\n\
 location bob 1000 sip:bob@192.0.2.4\nlocation bob 1000 sip:bob@192.0.2.5\n";
 
-/// Where the request goes to each.
-const FIRST: Hop = Hop {
-    addr: [192, 0, 2, 4],
-    port: 5060,
-    transport: Transport::Udp,
-};
-
-const SECOND: Hop = Hop {
-    addr: [192, 0, 2, 5],
-    port: 5060,
-    transport: Transport::Udp,
-};
-
 // ---- the first target
-
-/// The INVITE as it goes there.
-const FIRST_SENT: Sent = Sent {
-    cause: Cause::Request(0),
-    to: FIRST,
-    text: b"INVITE sip:bob@192.0.2.4 SIP/2.0\r\n\
-Via: SIP/2.0/UDP 192.0.2.9:5060;branch=z9hG4bK8c31e71e0ddbf1a0e56f5f0279990857.7.3.0\r\n\
-v: SIP/2.0/UDP 192.0.2.1:5060;branch=z9hG4bKa;rport=40000;received=192.0.2.1\r\n\
-Max-Forwards: 69\r\n\
-f: <sip:alice@example.com>;tag=1\r\n\
-t: <sip:bob@example.com>\r\n\
-i: c1\r\n\
-CSeq: 1 INVITE\r\n\
-l: 0\r\n\
-\r\n",
-};
 
 /// Its 200, with a body.
 const FIRST_ACCEPTS: &[u8] = b"SIP/2.0 200 OK\r\n\
@@ -74,74 +48,7 @@ l: 5\r\n\
 
 // ---- the second
 
-/// The INVITE as it goes there.
-const SECOND_SENT: Sent = Sent {
-    cause: Cause::Request(1),
-    to: SECOND,
-    text: b"INVITE sip:bob@192.0.2.5 SIP/2.0\r\n\
-Via: SIP/2.0/UDP 192.0.2.9:5060;branch=z9hG4bK8c31e71e0ddbf1a0e56f5f0279990857.7.3.1\r\n\
-v: SIP/2.0/UDP 192.0.2.1:5060;branch=z9hG4bKa;rport=40000;received=192.0.2.1\r\n\
-Max-Forwards: 69\r\n\
-f: <sip:alice@example.com>;tag=1\r\n\
-t: <sip:bob@example.com>\r\n\
-i: c1\r\n\
-CSeq: 1 INVITE\r\n\
-l: 0\r\n\
-\r\n",
-};
-
-/// That it rings.
-const SECOND_RINGS: &[u8] = b"SIP/2.0 180 Ringing\r\n\
-Via: SIP/2.0/UDP 192.0.2.9:5060;branch=z9hG4bK8c31e71e0ddbf1a0e56f5f0279990857.7.3.1\r\n\
-v: SIP/2.0/UDP 192.0.2.1:5060;branch=z9hG4bKa;rport=40000;received=192.0.2.1\r\n\
-f: <sip:alice@example.com>;tag=1\r\n\
-t: <sip:bob@example.com>;tag=5\r\n\
-i: c1\r\n\
-CSeq: 1 INVITE\r\n\
-l: 0\r\n\
-\r\n";
-
-/// The same as it goes up.
-const SECOND_RINGS_UP: Sent = Sent {
-    cause: Cause::Answer,
-    to: CALLER,
-    text: b"SIP/2.0 180 Ringing\r\n\
-v: SIP/2.0/UDP 192.0.2.1:5060;branch=z9hG4bKa;rport=40000;received=192.0.2.1\r\n\
-f: <sip:alice@example.com>;tag=1\r\n\
-t: <sip:bob@example.com>;tag=5\r\n\
-i: c1\r\n\
-CSeq: 1 INVITE\r\n\
-l: 0\r\n\
-\r\n",
-};
-
-/// Its CANCEL.
-const SECOND_CANCEL: Sent = Sent {
-    cause: Cause::Cancel(1),
-    to: SECOND,
-    text: b"CANCEL sip:bob@192.0.2.5 SIP/2.0\r\n\
-Via: SIP/2.0/UDP 192.0.2.9:5060;branch=z9hG4bK8c31e71e0ddbf1a0e56f5f0279990857.7.3.1\r\n\
-Max-Forwards: 70\r\n\
-From: <sip:alice@example.com>;tag=1\r\n\
-To: <sip:bob@example.com>\r\n\
-Call-ID: c1\r\n\
-CSeq: 1 CANCEL\r\n\
-Content-Length: 0\r\n\
-\r\n",
-};
-
-/// Its 200, which crosses the CANCEL.
-const SECOND_ACCEPTS: &[u8] = b"SIP/2.0 200 OK\r\n\
-Via: SIP/2.0/UDP 192.0.2.9:5060;branch=z9hG4bK8c31e71e0ddbf1a0e56f5f0279990857.7.3.1\r\n\
-v: SIP/2.0/UDP 192.0.2.1:5060;branch=z9hG4bKa;rport=40000;received=192.0.2.1\r\n\
-f: <sip:alice@example.com>;tag=1\r\n\
-t: <sip:bob@example.com>;tag=5\r\n\
-i: c1\r\n\
-CSeq: 1 INVITE\r\n\
-l: 0\r\n\
-\r\n";
-
-/// The same as it goes up.
+/// Its 200 as it goes up, which crosses the CANCEL.
 const SECOND_ACCEPTS_UP: Sent = Sent {
     cause: Cause::Answer,
     to: CALLER,
@@ -194,13 +101,13 @@ l: 0\r\n\
 /// The second target rings, the first accepts, and so does the second before its CANCEL is there; the first 200 comes again.
 const TWO_SUCCESSES: &[Moment] = &[
     (0, Turn::Sends(&TRYING)),
-    (0, Turn::Sends(&FIRST_SENT)),
+    (0, Turn::Sends(&INVITE_SENT)),
     (0, Turn::Sends(&SECOND_SENT)),
     (0, Turn::Waits(Some(500))),
     (10, Turn::Takes(SECOND, SECOND_RINGS, Ok(Taken::Posted(0)))),
     (10, Turn::Sends(&SECOND_RINGS_UP)),
     (10, Turn::Waits(Some(500))),
-    (20, Turn::Takes(FIRST, FIRST_ACCEPTS, Ok(Taken::Posted(1)))),
+    (20, Turn::Takes(TARGET, FIRST_ACCEPTS, Ok(Taken::Posted(1)))),
     (20, Turn::Sends(&FIRST_ACCEPTS_UP)),
     (20, Turn::Sends(&SECOND_CANCEL)),
     (20, Turn::Waits(Some(520))),
@@ -210,7 +117,7 @@ const TWO_SUCCESSES: &[Moment] = &[
     ),
     (30, Turn::Sends(&SECOND_ACCEPTS_UP)),
     (30, Turn::Waits(Some(520))),
-    (40, Turn::Takes(FIRST, FIRST_ACCEPTS, Ok(Taken::Posted(3)))),
+    (40, Turn::Takes(TARGET, FIRST_ACCEPTS, Ok(Taken::Posted(3)))),
     (40, Turn::Sends(&FIRST_ACCEPTS_UP)),
     (
         50,

@@ -1,9 +1,10 @@
 //! A call to a target over TCP (RFC 3261 sections 17.1.1.2, 17.1.1.3, 9.1 and 18.1.1): nothing is sent again, and the ACK and the CANCEL go as
 //! the request went.
-use crate::histories::playing::{Moment, Turn, goes_by};
+use crate::histories::playing::goes_by;
 use crate::holds::holds;
 use crate::requests::{SETUP, setup_of};
 use call_messages::Sent;
+use call_messages::histories::{Moment, Turn};
 use call_messages::one_target::{CALLER, CANCEL, CANCEL_OK, NOT_FOUND_UP, RINGING_UP, TRYING};
 use fork_call::{Cause, Setup, Taken};
 use sip_uri::{Hop, Transport};

@@ -1,6 +1,7 @@
 //! Calls to one target whose port fails one send: which sends are told to the call, and what it does then (RFC 3261 sections
 //! 16.9 and 17.1.4).
 
+use crate::histories::one_target::{CANCELLATION, FAILED};
 use crate::histories::playing::{Entry, Posted, has_entries, opened, taken};
 use crate::holds::holds;
 use crate::requests::SETUP;
@@ -174,12 +175,7 @@ const FAILURE: Run = Run {
         },
     ],
     wanted: &[&OPTIONS_SENT, &OPTIONS_NOT_FOUND_UP],
-    entries: &[Entry {
-        event: Posted::Answer(0, 404),
-        started: &[],
-        cancelled: &[],
-        up: Up::Final(Choice::Stored(0)),
-    }],
+    entries: FAILED,
 };
 
 /// The same, where the request could not be sent.
@@ -324,26 +320,7 @@ const CANCELLED: Run = Run {
         &ACK_SENT,
         &TERMINATED_UP,
     ],
-    entries: &[
-        Entry {
-            event: Posted::Cancel,
-            started: &[],
-            cancelled: &[],
-            up: Up::Nothing,
-        },
-        Entry {
-            event: Posted::Ring(0, 180),
-            started: &[],
-            cancelled: &[0],
-            up: Up::Provisional(0),
-        },
-        Entry {
-            event: Posted::Answer(0, 487),
-            started: &[],
-            cancelled: &[],
-            up: Up::Final(Choice::Stored(0)),
-        },
-    ],
+    entries: CANCELLATION,
 };
 
 /// The same, where the INVITE could not be sent: the target is cancelled after it has ended, and what it answers changes

@@ -1,7 +1,8 @@
 //! A call to four targets that all fail, and what its book says of it (RFC 3261 section 16.7 step 6).
-use crate::histories::playing::{Entry, Moment, Posted, Turn, goes_so};
+use crate::histories::playing::{Entry, Posted, goes_so};
 use crate::holds::holds;
 use call_messages::Sent;
+use call_messages::histories::{Moment, Turn};
 use call_messages::one_target::{CALLER, INVITE};
 use fork_call::{Cause, Taken};
 use fork_context::{Choice, Up};

@@ -1,9 +1,11 @@
 //! A call to three groups of targets, one after another, the second of which is one target that answers with two contacts
 //! (RFC 3261 sections 16.5 to 16.7).
-use crate::histories::playing::{Entry, Moment, Posted, Turn, goes_so};
+use crate::histories::playing::{Entry, Posted, goes_so};
 use crate::holds::holds;
 use call_messages::Sent;
-use call_messages::one_target::{CALLER, INVITE, TRYING};
+use call_messages::five_targets::{THIRD, THIRD_ACK, THIRD_RINGS, THIRD_RINGS_UP, THIRD_SENT};
+use call_messages::histories::{Moment, Turn};
+use call_messages::one_target::{CALLER, INVITE, INVITE_SENT, TARGET, TRYING};
 use fork_call::{Cause, Taken};
 use fork_context::{Choice, Up};
 use sip_uri::{Hop, Transport};
@@ -12,22 +14,10 @@ use sip_uri::{Hop, Transport};
 const THREE_GROUPS: &[u8] = b"own 192.0.2.9 5060\ninstance 7\ndomain example.com\n\
 location bob 1000 sip:bob@192.0.2.4\nlocation bob 700 sip:bob@192.0.2.5:5062\nlocation bob 500 sip:bob@192.0.2.6\n";
 
-/// Where the request goes to each, and to each contact.
-const FIRST: Hop = Hop {
-    addr: [192, 0, 2, 4],
-    port: 5060,
-    transport: Transport::Udp,
-};
-
+/// Where the request goes to the second, and to each contact.
 const SECOND: Hop = Hop {
     addr: [192, 0, 2, 5],
     port: 5062,
-    transport: Transport::Udp,
-};
-
-const THIRD: Hop = Hop {
-    addr: [192, 0, 2, 6],
-    port: 5060,
     transport: Transport::Udp,
 };
 
@@ -45,22 +35,6 @@ const DESK: Hop = Hop {
 
 // ---- the first target
 
-/// The INVITE as it goes there.
-const FIRST_SENT: Sent = Sent {
-    cause: Cause::Request(0),
-    to: FIRST,
-    text: b"INVITE sip:bob@192.0.2.4 SIP/2.0\r\n\
-Via: SIP/2.0/UDP 192.0.2.9:5060;branch=z9hG4bK8c31e71e0ddbf1a0e56f5f0279990857.7.3.0\r\n\
-v: SIP/2.0/UDP 192.0.2.1:5060;branch=z9hG4bKa;rport=40000;received=192.0.2.1\r\n\
-Max-Forwards: 69\r\n\
-f: <sip:alice@example.com>;tag=1\r\n\
-t: <sip:bob@example.com>\r\n\
-i: c1\r\n\
-CSeq: 1 INVITE\r\n\
-l: 0\r\n\
-\r\n",
-};
-
 /// What it answers.
 const FIRST_ANSWER: &[u8] = b"SIP/2.0 404 Not Found\r\n\
 Via: SIP/2.0/UDP 192.0.2.9:5060;branch=z9hG4bK8c31e71e0ddbf1a0e56f5f0279990857.7.3.0\r\n\
@@ -75,7 +49,7 @@ l: 0\r\n\
 /// The ACK to that.
 const FIRST_ACK: Sent = Sent {
     cause: Cause::Ack(0),
-    to: FIRST,
+    to: TARGET,
     text: b"ACK sip:bob@192.0.2.4 SIP/2.0\r\n\
 Via: SIP/2.0/UDP 192.0.2.9:5060;branch=z9hG4bK8c31e71e0ddbf1a0e56f5f0279990857.7.3.0\r\n\
 Max-Forwards: 70\r\n\
@@ -236,22 +210,6 @@ Content-Length: 0\r\n\
 
 // ---- the third target
 
-/// The INVITE as it goes there.
-const THIRD_SENT: Sent = Sent {
-    cause: Cause::Request(2),
-    to: THIRD,
-    text: b"INVITE sip:bob@192.0.2.6 SIP/2.0\r\n\
-Via: SIP/2.0/UDP 192.0.2.9:5060;branch=z9hG4bK8c31e71e0ddbf1a0e56f5f0279990857.7.3.2\r\n\
-v: SIP/2.0/UDP 192.0.2.1:5060;branch=z9hG4bKa;rport=40000;received=192.0.2.1\r\n\
-Max-Forwards: 69\r\n\
-f: <sip:alice@example.com>;tag=1\r\n\
-t: <sip:bob@example.com>\r\n\
-i: c1\r\n\
-CSeq: 1 INVITE\r\n\
-l: 0\r\n\
-\r\n",
-};
-
 /// What it answers.
 const THIRD_ANSWER: &[u8] = b"SIP/2.0 503 Service Unavailable\r\n\
 Via: SIP/2.0/UDP 192.0.2.9:5060;branch=z9hG4bK8c31e71e0ddbf1a0e56f5f0279990857.7.3.2\r\n\
@@ -262,46 +220,6 @@ i: c1\r\n\
 CSeq: 1 INVITE\r\n\
 l: 0\r\n\
 \r\n";
-
-/// The ACK to that.
-const THIRD_ACK: Sent = Sent {
-    cause: Cause::Ack(2),
-    to: THIRD,
-    text: b"ACK sip:bob@192.0.2.6 SIP/2.0\r\n\
-Via: SIP/2.0/UDP 192.0.2.9:5060;branch=z9hG4bK8c31e71e0ddbf1a0e56f5f0279990857.7.3.2\r\n\
-Max-Forwards: 70\r\n\
-From: <sip:alice@example.com>;tag=1\r\n\
-To: <sip:bob@example.com>;tag=6\r\n\
-Call-ID: c1\r\n\
-CSeq: 1 ACK\r\n\
-Content-Length: 0\r\n\
-\r\n",
-};
-
-/// That it rings.
-const THIRD_RINGING: &[u8] = b"SIP/2.0 180 Ringing\r\n\
-Via: SIP/2.0/UDP 192.0.2.9:5060;branch=z9hG4bK8c31e71e0ddbf1a0e56f5f0279990857.7.3.2\r\n\
-v: SIP/2.0/UDP 192.0.2.1:5060;branch=z9hG4bKa;rport=40000;received=192.0.2.1\r\n\
-f: <sip:alice@example.com>;tag=1\r\n\
-t: <sip:bob@example.com>;tag=6\r\n\
-i: c1\r\n\
-CSeq: 1 INVITE\r\n\
-l: 0\r\n\
-\r\n";
-
-/// The same as it goes up.
-const THIRD_RINGING_UP: Sent = Sent {
-    cause: Cause::Answer,
-    to: CALLER,
-    text: b"SIP/2.0 180 Ringing\r\n\
-v: SIP/2.0/UDP 192.0.2.1:5060;branch=z9hG4bKa;rport=40000;received=192.0.2.1\r\n\
-f: <sip:alice@example.com>;tag=1\r\n\
-t: <sip:bob@example.com>;tag=6\r\n\
-i: c1\r\n\
-CSeq: 1 INVITE\r\n\
-l: 0\r\n\
-\r\n",
-};
 
 // ---- the caller
 
@@ -321,9 +239,9 @@ l: 0\r\n\
 /// A target of each group fails, and then the next group is tried; the 404 of the first goes up at the end.
 const THREE_FAILURES: &[Moment] = &[
     (0, Turn::Sends(&TRYING)),
-    (0, Turn::Sends(&FIRST_SENT)),
+    (0, Turn::Sends(&INVITE_SENT)),
     (0, Turn::Waits(Some(500))),
-    (20, Turn::Takes(FIRST, FIRST_ANSWER, Ok(Taken::Posted(0)))),
+    (20, Turn::Takes(TARGET, FIRST_ANSWER, Ok(Taken::Posted(0)))),
     (20, Turn::Sends(&FIRST_ACK)),
     (20, Turn::Sends(&SECOND_SENT)),
     (20, Turn::Waits(Some(520))),
@@ -339,8 +257,8 @@ const THREE_FAILURES: &[Moment] = &[
     (50, Turn::Sends(&THIRD_SENT)),
     (50, Turn::Sends(&DESK_ACK)),
     (50, Turn::Waits(Some(550))),
-    (60, Turn::Takes(THIRD, THIRD_RINGING, Ok(Taken::Posted(4)))),
-    (60, Turn::Sends(&THIRD_RINGING_UP)),
+    (60, Turn::Takes(THIRD, THIRD_RINGS, Ok(Taken::Posted(4)))),
+    (60, Turn::Sends(&THIRD_RINGS_UP)),
     (60, Turn::Waits(Some(32_020))),
     (70, Turn::Takes(THIRD, THIRD_ANSWER, Ok(Taken::Posted(5)))),
     (70, Turn::Sends(&FIRST_UP)),

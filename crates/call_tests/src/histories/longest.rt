@@ -1,42 +1,19 @@
 //! Calls whose branches have a longest time (RFC 3261 sections 16.6 step 11, 16.7 step 2 and 16.8).
-use crate::histories::playing::{Moment, Turn, goes_by};
+use crate::histories::playing::goes_by;
 use crate::holds::holds;
 use crate::requests::setup_of;
-use call_messages::Sent;
+use call_messages::five_targets::SECOND_SENT;
+use call_messages::histories::{Moment, Turn};
 use call_messages::one_target::{
     ACK_SENT, CANCEL_SENT, CANCEL_TAKEN, INVITE, INVITE_SENT, RINGING, RINGING_UP, TARGET,
     TERMINATED, TRYING,
 };
-use fork_call::{Cause, Setup, Taken};
-use sip_uri::{Hop, Transport};
+use fork_call::{Setup, Taken};
 use std::alloc::Global;
 
 /// Two targets of bob, one after the other.
 const TWO_GROUPS: &[u8] = b"own 192.0.2.9 5060\ninstance 7\ndomain example.com\n\
 location bob 1000 sip:bob@192.0.2.4\nlocation bob 500 sip:bob@192.0.2.5\n";
-
-/// Where the request to the second goes.
-const SECOND: Hop = Hop {
-    addr: [192, 0, 2, 5],
-    port: 5060,
-    transport: Transport::Udp,
-};
-
-/// The INVITE as it goes there.
-const SECOND_SENT: Sent = Sent {
-    cause: Cause::Request(1),
-    to: SECOND,
-    text: b"INVITE sip:bob@192.0.2.5 SIP/2.0\r\n\
-Via: SIP/2.0/UDP 192.0.2.9:5060;branch=z9hG4bK8c31e71e0ddbf1a0e56f5f0279990857.7.3.1\r\n\
-v: SIP/2.0/UDP 192.0.2.1:5060;branch=z9hG4bKa;rport=40000;received=192.0.2.1\r\n\
-Max-Forwards: 69\r\n\
-f: <sip:alice@example.com>;tag=1\r\n\
-t: <sip:bob@example.com>\r\n\
-i: c1\r\n\
-CSeq: 1 INVITE\r\n\
-l: 0\r\n\
-\r\n",
-};
 
 /// The first rings twice and is cancelled 15 s after it was called; then the second is called, and has its own 15 s.
 const SHORT: &[Moment] = &[

@@ -1,14 +1,11 @@
 //! Calls to one target, from the first datagram to the last: with a failure, with a CANCEL, and with strays.
-use crate::histories::playing::{
-    Entry, Moment, Posted, Turn, goes_so, has_entries, opened, plays, taken,
-};
+use crate::histories::playing::{Entry, Posted, goes_so, has_entries, opened, plays, taken};
 use crate::holds::holds;
 use crate::requests::SETUP;
+use call_messages::histories::{CANCELLED, FAILING, Moment, Turn};
 use call_messages::one_target::{
-    ACK, ACK_SENT, CALLER, CANCEL, CANCEL_OK, CANCEL_SENT, CANCEL_TAKEN, INVITE, INVITE_SENT,
-    NOT_FOUND, NOT_FOUND_UP, OPTIONS, OPTIONS_NOT_FOUND, OPTIONS_NOT_FOUND_OF_FIVE,
-    OPTIONS_NOT_FOUND_UP, OPTIONS_SENT, RINGING, RINGING_UP, TARGET, TERMINATED, TERMINATED_UP,
-    TRYING,
+    ACK, ACK_SENT, CALLER, CANCEL_SENT, CANCEL_TAKEN, INVITE, INVITE_SENT, NOT_FOUND, NOT_FOUND_UP,
+    OPTIONS, RINGING, RINGING_UP, TARGET, TERMINATED, TERMINATED_UP, TRYING,
 };
 use fork_call::{Call, TakeFault, Taken};
 use fork_context::{Choice, Up};
@@ -16,35 +13,8 @@ use std::alloc::Global;
 
 // ---- a failure
 
-/// An OPTIONS request whose target answers 404, and that again.
-const FAILING: &[Moment] = &[
-    (0, Turn::Sends(&OPTIONS_SENT)),
-    (0, Turn::Waits(Some(500))),
-    (
-        20,
-        Turn::Takes(TARGET, OPTIONS_NOT_FOUND, Ok(Taken::Posted(0))),
-    ),
-    (20, Turn::Sends(&OPTIONS_NOT_FOUND_UP)),
-    (20, Turn::Waits(Some(5020))),
-    (
-        30,
-        Turn::Takes(TARGET, OPTIONS_NOT_FOUND, Ok(Taken::Absorbed)),
-    ),
-    (
-        30,
-        Turn::Takes(TARGET, OPTIONS_NOT_FOUND_OF_FIVE, Err(TakeFault::Stray)),
-    ),
-    (30, Turn::Waits(Some(5020))),
-    (40, Turn::Takes(CALLER, OPTIONS, Ok(Taken::Absorbed))),
-    (40, Turn::Sends(&OPTIONS_NOT_FOUND_UP)),
-    (5020, Turn::Does),
-    (5020, Turn::Waits(Some(32_020))),
-    (32_020, Turn::Does),
-    (32_020, Turn::Waits(None)),
-];
-
-/// Its events.
-const FAILED: &[Entry] = &[Entry {
+/// The events of an OPTIONS request whose target answers 404.
+pub const FAILED: &[Entry] = &[Entry {
     event: Posted::Answer(0, 404),
     started: &[],
     cancelled: &[],
@@ -62,35 +32,8 @@ fn a_failure_goes_up(rt: HostRuntime) {
 
 // ---- a CANCEL
 
-/// An INVITE that the caller cancels before the target rings.
-const CANCELLED: &[Moment] = &[
-    (0, Turn::Sends(&TRYING)),
-    (0, Turn::Sends(&INVITE_SENT)),
-    (0, Turn::Waits(Some(500))),
-    (10, Turn::Takes(CALLER, CANCEL, Ok(Taken::Posted(0)))),
-    (10, Turn::Sends(&CANCEL_OK)),
-    (10, Turn::Waits(Some(500))),
-    (20, Turn::Takes(TARGET, RINGING, Ok(Taken::Posted(1)))),
-    (20, Turn::Sends(&RINGING_UP)),
-    (20, Turn::Sends(&CANCEL_SENT)),
-    (20, Turn::Waits(Some(520))),
-    (30, Turn::Takes(TARGET, TERMINATED, Ok(Taken::Posted(2)))),
-    (30, Turn::Sends(&TERMINATED_UP)),
-    (30, Turn::Sends(&ACK_SENT)),
-    (30, Turn::Waits(Some(520))),
-];
-
-/// The same, where no time is kept until the CANCEL is given up.
-const LATE: &[Moment] = &[
-    (32_020, Turn::Sends(&TERMINATED_UP)),
-    (32_020, Turn::Does),
-    (32_020, Turn::Waits(Some(32_030))),
-    (32_030, Turn::Does),
-    (32_030, Turn::Does),
-    (32_030, Turn::Waits(None)),
-];
-
-/// The same, where each datagram is sent again at its time: the CANCEL is never answered, nor is the 487 acknowledged.
+/// The INVITE that is cancelled, where each datagram is sent again at its time: the CANCEL is never answered, nor is the 487
+/// acknowledged.
 const AGAIN: &[Moment] = &[
     (520, Turn::Sends(&CANCEL_SENT)),
     (520, Turn::Waits(Some(530))),
@@ -141,8 +84,8 @@ const ACKNOWLEDGED: &[Moment] = &[
     (32_030, Turn::Waits(None)),
 ];
 
-/// Its events.
-const CANCELLATION: &[Entry] = &[
+/// The events of each.
+pub const CANCELLATION: &[Entry] = &[
     Entry {
         event: Posted::Cancel,
         started: &[],
@@ -163,11 +106,16 @@ const CANCELLATION: &[Entry] = &[
     },
 ];
 
-/// Whether the INVITE that is cancelled goes on so, and its book has three entries then.
+/// The INVITE that is cancelled, until the target has ended.
+fn until_the_end() -> &'static [Moment] {
+    CANCELLED.get(..14).unwrap_or(CANCELLED)
+}
+
+/// Whether it goes on so, and its book has three entries then.
 fn goes_on(alloc: Global, rest: &[Moment]) -> bool {
     match opened(alloc, SETUP, 3, INVITE) {
         Some(mut call) => {
-            plays(alloc, &mut call, CANCELLED)
+            plays(alloc, &mut call, until_the_end())
                 && plays(alloc, &mut call, rest)
                 && has_entries(&call, CANCELLATION)
         }
@@ -178,7 +126,11 @@ fn goes_on(alloc: Global, rest: &[Moment]) -> bool {
 #[test]
 fn the_caller_cancels(rt: HostRuntime) {
     let alloc = rt.alloc();
-    holds(&rt, goes_on(alloc, LATE), "no moment but the last");
+    holds(
+        &rt,
+        goes_so(alloc, SETUP, INVITE, CANCELLED, CANCELLATION),
+        "no moment but the last",
+    );
     holds(&rt, goes_on(alloc, AGAIN), "each moment");
     holds(
         &rt,

@@ -1,30 +1,11 @@
 //! Histories of a call: what comes to it moment by moment, and what it does then.
 use crate::requests::{SOURCE, read_message, setup_of};
+use call_messages::histories::{Moment, Turn};
 use call_messages::{Sent, is_sent};
 use fork_call::{Call, Cause, Setup, Step, TakeFault, Taken, is_openable};
 use fork_context::{Event, Reply, Up};
 use sip_uri::Hop;
 use std::alloc::{AllocError, Global};
-
-/// What happens to a call, and what comes of it.
-#[derive(Clone, Copy)]
-pub enum Turn {
-    /// This message comes from there, and is taken so.
-    Takes(Hop, &'static [u8], Result<Taken, TakeFault>),
-    /// The next thing that is due sends this datagram.
-    Sends(&'static Sent),
-    /// The next thing that is due sends a datagram of this cause.
-    SendsFor(Cause),
-    /// The next thing that is due sends nothing.
-    Does,
-    /// Nothing is due before this moment; where there is none, the call is over.
-    Waits(Option<u64>),
-    /// A datagram of this cause could not be sent.
-    Fails(Cause),
-}
-
-/// A moment in milliseconds, and what happens then.
-pub type Moment = (u64, Turn);
 
 /// The call that the request opens under this number at 0, by a setup.
 fn opened_by(
@@ -108,6 +89,7 @@ fn goes(alloc: Global, call: &mut Call<Global>, now: u64, turn: Turn) -> bool {
             is_idle(call.pump(now)) && call.due() == due && call.over() == due.is_none()
         }
         Turn::Fails(cause) => call.failed(cause, now).is_ok(),
+        Turn::Comes(_, _, _) | Turn::Carries(_) => false,
     }
 }
 

@@ -1,48 +1,17 @@
 //! What the CANCEL of a branch says of why it is sent, by what closed the table (RFC 3326): a 2xx, a 6xx, or the caller's CANCEL;
 //! and nothing where timer C fired.
-use crate::histories::playing::{Moment, Turn, goes_by};
+use crate::histories::accepting::ONE_GROUP;
+use crate::histories::playing::goes_by;
 use crate::holds::holds;
 use crate::requests::{SETUP, setup_of};
 use call_messages::Sent;
+use call_messages::five_targets::{SECOND, SECOND_ACCEPTS, SECOND_RINGS};
+use call_messages::histories::{Moment, Turn};
 use call_messages::one_target::{
     CALLER, CANCEL, CANCEL_OK, CANCEL_SENT, INVITE, RINGING, RINGING_UP, TARGET, TRYING,
 };
 use fork_call::{Cause, Taken};
-use sip_uri::{Hop, Transport};
 use std::alloc::Global;
-
-/// Two targets of bob, both tried at once.
-const ONE_GROUP: &[u8] = b"own 192.0.2.9 5060\ninstance 7\ndomain example.com\n\
-location bob 1000 sip:bob@192.0.2.4\nlocation bob 1000 sip:bob@192.0.2.5\n";
-
-/// Where the request to the second goes.
-const SECOND: Hop = Hop {
-    addr: [192, 0, 2, 5],
-    port: 5060,
-    transport: Transport::Udp,
-};
-
-/// The 180 of the second.
-const SECOND_RINGS: &[u8] = b"SIP/2.0 180 Ringing\r\n\
-Via: SIP/2.0/UDP 192.0.2.9:5060;branch=z9hG4bK8c31e71e0ddbf1a0e56f5f0279990857.7.3.1\r\n\
-v: SIP/2.0/UDP 192.0.2.1:5060;branch=z9hG4bKa;rport=40000;received=192.0.2.1\r\n\
-f: <sip:alice@example.com>;tag=1\r\n\
-t: <sip:bob@example.com>;tag=5\r\n\
-i: c1\r\n\
-CSeq: 1 INVITE\r\n\
-l: 0\r\n\
-\r\n";
-
-/// Its 200.
-const SECOND_ACCEPTS: &[u8] = b"SIP/2.0 200 OK\r\n\
-Via: SIP/2.0/UDP 192.0.2.9:5060;branch=z9hG4bK8c31e71e0ddbf1a0e56f5f0279990857.7.3.1\r\n\
-v: SIP/2.0/UDP 192.0.2.1:5060;branch=z9hG4bKa;rport=40000;received=192.0.2.1\r\n\
-f: <sip:alice@example.com>;tag=1\r\n\
-t: <sip:bob@example.com>;tag=5\r\n\
-i: c1\r\n\
-CSeq: 1 INVITE\r\n\
-l: 0\r\n\
-\r\n";
 
 /// The 603 of the first.
 const DECLINED: &[u8] = b"SIP/2.0 603 Decline\r\n\

@@ -1,9 +1,10 @@
 //! Calls of a proxy that stays on the path of each dialog, and that gives the time of a request back (RFC 3261 sections 8.2.6.1 and
 //! 16.6 step 4).
-use crate::histories::playing::{Moment, Turn, goes_by};
+use crate::histories::playing::goes_by;
 use crate::holds::holds;
 use crate::requests::{SETUP, setup_of};
 use call_messages::Sent;
+use call_messages::histories::{Moment, Turn};
 use call_messages::one_target::{
     ACK_SENT, CALLER, INVITE, INVITE_SENT, NOT_FOUND, OPTIONS, OPTIONS_SENT, TARGET, TRYING,
 };

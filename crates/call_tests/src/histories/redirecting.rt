@@ -1,39 +1,18 @@
 //! A 302 with two contacts, to an INVITE for the domain and to one for a URI that the proxy is not responsible for (RFC 3261
 //! section 16.5).
-use crate::histories::playing::{Entry, Moment, Posted, Turn, goes_so};
+use crate::histories::playing::{Entry, Posted, goes_so};
 use crate::holds::holds;
 use crate::requests::SETUP;
-use call_messages::Sent;
+use call_messages::histories::{Moment, Turn};
 use call_messages::one_target::{ACK_SENT, CALLER, INVITE, INVITE_SENT, TARGET, TRYING};
 use call_messages::redirecting::{
-    MOVED, OTHER, OTHER_ACK_SENT, OTHER_INVITE, OTHER_MOVED, OTHER_MOVED_UP, OTHER_SENT,
-    OTHER_TRYING,
+    CONTACT_SENT, MOVED, OTHER, OTHER_ACK_SENT, OTHER_INVITE, OTHER_MOVED, OTHER_MOVED_UP,
+    OTHER_SENT, OTHER_TRYING,
 };
-use fork_call::{Cause, Taken};
+use fork_call::Taken;
 use fork_context::{Choice, Up};
-use sip_uri::{Hop, Transport};
 
 // ---- an INVITE for the domain
-
-/// The INVITE as it goes to the contact of the higher q.
-const CONTACT_SENT: Sent = Sent {
-    cause: Cause::Request(1),
-    to: Hop {
-        addr: [192, 0, 2, 8],
-        port: 5070,
-        transport: Transport::Udp,
-    },
-    text: b"INVITE sip:dave@192.0.2.8:5070 SIP/2.0\r\n\
-Via: SIP/2.0/UDP 192.0.2.9:5060;branch=z9hG4bK8c31e71e0ddbf1a0e56f5f0279990857.7.3.1\r\n\
-v: SIP/2.0/UDP 192.0.2.1:5060;branch=z9hG4bKa;rport=40000;received=192.0.2.1\r\n\
-Max-Forwards: 69\r\n\
-f: <sip:alice@example.com>;tag=1\r\n\
-t: <sip:bob@example.com>\r\n\
-i: c1\r\n\
-CSeq: 1 INVITE\r\n\
-l: 0\r\n\
-\r\n",
-};
 
 /// The contacts are tried.
 const FOLLOWED: &[Moment] = &[

@@ -1,12 +1,13 @@
 //! Calls to one target that falls silent: what is sent again, and when the branch ends (RFC 3261 sections 16.6, 16.8, 17.1.1
 //! and 17.1.2).
-use crate::histories::playing::{Entry, Moment, Posted, Turn, goes_so};
+use crate::histories::playing::{Entry, Posted, goes_so};
 use crate::holds::holds;
 use crate::requests::SETUP;
 use call_messages::Sent;
+use call_messages::histories::{Moment, Turn};
 use call_messages::one_target::{
-    CALLER, CANCEL_SENT, INVITE, INVITE_SENT, OPTIONS, OPTIONS_SENT, RINGING, RINGING_UP, TARGET,
-    TRYING,
+    CALLER, CANCEL_SENT, INVITE, INVITE_SENT, OPTIONS, OPTIONS_SENT, OWN_ACK, RINGING, RINGING_UP,
+    TARGET, TRYING,
 };
 use fork_call::{Cause, Taken};
 use fork_context::{Choice, Up};
@@ -39,17 +40,6 @@ Content-Length: 0\r\n\
 \r\n",
 };
 
-/// The caller's ACK to the first.
-const ACK: &[u8] = b"ACK sip:bob@example.com SIP/2.0\r\n\
-v: SIP/2.0/UDP 192.0.2.1:5060;branch=z9hG4bKa;rport\r\n\
-Max-Forwards: 70\r\n\
-f: <sip:alice@example.com>;tag=1\r\n\
-t: <sip:bob@example.com>;tag=fpa54465d48fc852fc\r\n\
-i: c1\r\n\
-CSeq: 1 ACK\r\n\
-l: 0\r\n\
-\r\n";
-
 /// An INVITE that is never answered: it is sent again at longer and longer intervals.
 const SILENT_INVITE: &[Moment] = &[
     (0, Turn::Sends(&TRYING)),
@@ -70,7 +60,7 @@ const SILENT_INVITE: &[Moment] = &[
     (32_000, Turn::Does),
     (32_000, Turn::Sends(&INVITE_TIMEOUT_UP)),
     (32_000, Turn::Waits(Some(32_500))),
-    (32_100, Turn::Takes(CALLER, ACK, Ok(Taken::Absorbed))),
+    (32_100, Turn::Takes(CALLER, OWN_ACK, Ok(Taken::Absorbed))),
     (32_100, Turn::Waits(Some(37_100))),
     (37_100, Turn::Does),
     (37_100, Turn::Waits(None)),
@@ -129,7 +119,7 @@ const RUNG: &[Moment] = &[
     (213_020, Turn::Sends(&INVITE_TIMEOUT_UP)),
     (213_020, Turn::Does),
     (213_020, Turn::Waits(Some(213_520))),
-    (213_100, Turn::Takes(CALLER, ACK, Ok(Taken::Absorbed))),
+    (213_100, Turn::Takes(CALLER, OWN_ACK, Ok(Taken::Absorbed))),
     (213_100, Turn::Waits(Some(218_100))),
     (218_100, Turn::Does),
     (218_100, Turn::Waits(None)),

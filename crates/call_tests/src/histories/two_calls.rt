@@ -1,8 +1,9 @@
 //! Two calls of the same request: each is sent the responses to the other's branch (RFC 3261 section 17.1.3).
-use crate::histories::playing::{Entry, Moment, Posted, Turn, has_entries, opened, plays};
+use crate::histories::playing::{Entry, Posted, has_entries, opened, plays};
 use crate::holds::holds;
 use crate::requests::SETUP;
 use call_messages::Sent;
+use call_messages::histories::{Moment, Turn};
 use call_messages::one_target::{
     INVITE, INVITE_SENT, NOT_FOUND, NOT_FOUND_UP, RINGING, RINGING_UP, TARGET, TRYING,
 };

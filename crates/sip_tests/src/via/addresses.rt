@@ -31,3 +31,20 @@ fn an_address_is_told_from_other_texts(rt: HostRuntime) {
         "the byte of two digits",
     );
 }
+
+/// Two characters, and the byte whose digits they are.
+const PAIRS: [(u8, u8, Option<u8>); 5] = [
+    (b'a', b'7', Some(0xa7)),
+    (b'0', b'0', Some(0)),
+    (b'f', b'f', Some(0xff)),
+    (b'A', b'7', None),
+    (b'a', b'g', None),
+];
+
+#[test]
+fn a_byte_is_read_of_its_digits(rt: HostRuntime) {
+    for (row, (upper, lower, byte)) in PAIRS.iter().enumerate() {
+        let read = read_pair(*upper, *lower) == *byte;
+        holds_in_row(&rt, read, "the byte of two digits", row);
+    }
+}

@@ -1,7 +1,7 @@
 //! The messages of an INVITE that is forked to five targets, byte for byte, where they are not those of a call to the first
 //! alone.
-use call_messages::Sent;
-use call_messages::one_target::CALLER;
+use crate::one_target::CALLER;
+use crate::sent::Sent;
 use fork_call::Cause;
 use sip_uri::{Hop, Transport};
 
@@ -93,6 +93,17 @@ CSeq: 1 CANCEL\r\n\
 Content-Length: 0\r\n\
 \r\n",
 };
+
+/// Its 200.
+pub const SECOND_ACCEPTS: &[u8] = b"SIP/2.0 200 OK\r\n\
+Via: SIP/2.0/UDP 192.0.2.9:5060;branch=z9hG4bK8c31e71e0ddbf1a0e56f5f0279990857.7.3.1\r\n\
+v: SIP/2.0/UDP 192.0.2.1:5060;branch=z9hG4bKa;rport=40000;received=192.0.2.1\r\n\
+f: <sip:alice@example.com>;tag=1\r\n\
+t: <sip:bob@example.com>;tag=5\r\n\
+i: c1\r\n\
+CSeq: 1 INVITE\r\n\
+l: 0\r\n\
+\r\n";
 
 /// Its 487.
 pub const SECOND_TERMINATED: &[u8] = b"SIP/2.0 487 Request Terminated\r\n\
