@@ -66,7 +66,7 @@ fn is_response<A: Allocator>(message: &Message<A>) -> bool
 fn is_to_method<A: Allocator>(message: &Message<A>, method: &[u8]) -> bool
     ensures { result ≡ is_to_method method.now (message_cseq message.now.headers) }
 {
-    message.cseq().method == method
+    message.cseq_method() == method
 }
 
 /// The method of the request that the call was opened with.

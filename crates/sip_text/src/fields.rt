@@ -2,7 +2,7 @@
 
 ghost use Rattle.std.specs.Prelude.{◌≡◌};
 ghost use Rattle.std.specs.Option.{option_copied};
-ghost use Rattle.sip_text.specs.Fields.{cseq_in, cseq_of, fits_start, has_method, message_cseq, value_of};
+ghost use Rattle.sip_text.specs.Fields.{cseq_in, cseq_of, fits_start, has_method, value_of};
 ghost use Rattle.sip_text.specs.Seen.{view_cseq, view_start, views};
 ghost use Rattle.sip_text.specs.inner.Seen.{seen_cseq};
 
@@ -20,7 +20,7 @@ pub fn value_of<'a>(which: MandatoryHeader, headers: HeaderLines<'a>) -> Option<
 }
 
 /// What a CSeq value says.
-fn cseq_of(value: &[u8]) -> Option<CSeqLine<'_>>
+pub fn cseq_of(value: &[u8]) -> Option<CSeqLine<'_>>
     ensures { seen_cseq result ≡ cseq_of value.now }
 {
     let (digits, rest) = cut_at_space(value);
@@ -30,13 +30,6 @@ fn cseq_of(value: &[u8]) -> Option<CSeqLine<'_>>
         return None;
     }
     Some(CSeqLine { number, method })
-}
-
-/// What the first CSeq says.
-pub fn message_cseq(headers: HeaderLines<'_>) -> Option<CSeqLine<'_>>
-    ensures { seen_cseq result ≡ message_cseq (views headers.entry) }
-{
-    cseq_of(value_of(MandatoryHeader::CSeq, headers)?)
 }
 
 /// Whether a message that begins so may have that CSeq.

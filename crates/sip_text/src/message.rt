@@ -1,7 +1,7 @@
 //! Messages.
 
 use crate::fault::ReadFault;
-use crate::fields::{message_cseq, value_of};
+use crate::fields::{cseq_of, value_of};
 use crate::header_lines::HeaderLines;
 use crate::method::Method;
 use crate::name::HeaderValues;
@@ -10,7 +10,7 @@ use crate::parts::{CSeqLine, StartLine};
 use crate::place::{LinePlaces, StartPlaces, start_within};
 use crate::read::read_all;
 use crate::write::append_message;
-use sip_lex::{PartPlace, part_within, tag_of};
+use sip_lex::{PartPlace, cut_at_space, part_within, tag_of, trim_start};
 use std::alloc::{AllocError, Allocator};
 use std::marker::Model;
 
@@ -37,11 +37,11 @@ impl<A: Allocator> Model for Message<A> {
 }
 
 impl<A: Allocator> Message<A> {
-    ghost use Rattle.std.specs.Prelude.{◌≡◌, ◌+◌, ◌++◌, ◌≤◌, ◌<◌, IfOk, IsOk, OnOk, OnErr, Some, length, vec_capacity, vec_len};
+    ghost use Rattle.std.specs.Prelude.{◌≡◌, ◌+◌, ◌++◌, ◌≤◌, ◌<◌, IfOk, IsOk, OnOk, OnErr, Some, length, option_map, vec_capacity, vec_len};
     ghost use Rattle.std.specs.Option.{option_copied};
     ghost use Rattle.sip_text.specs.declared.needed.MandatoryHeader.TheVariants.{CallId, From, To};
     ghost use Rattle.sip_text.specs.Change.{with_part_at, with_value_at, without_line_at};
-    ghost use Rattle.sip_text.specs.Fields.{message_cseq, value_of};
+    ghost use Rattle.sip_text.specs.Fields.{CSeqText, message_cseq, value_of};
     ghost use Rattle.sip_text.specs.Message.{IsMessage};
     ghost use Rattle.sip_text.specs.inner.Kept.{IsKept, placed_message};
     ghost use Rattle.sip_text.specs.Method.{is_invite, known_method, stands_alone};
@@ -152,10 +152,32 @@ impl<A: Allocator> Message<A> {
     pub fn cseq(&self) -> CSeqLine<'_>
         ensures { message_cseq self.now.headers ≡ Some (view_cseq result) }
     {
-        match message_cseq(HeaderLines::new(&self.text, &self.lines)) {
-            Some(cseq) => cseq,
-            None => unreachable!(),
-        }
+        let Some(value) = value_of(
+            MandatoryHeader::CSeq,
+            HeaderLines::new(&self.text, &self.lines),
+        ) else {
+            unreachable!()
+        };
+        let Some(cseq) = cseq_of(value) else {
+            unreachable!()
+        };
+        cseq
+    }
+
+    /// The method that the first CSeq names (RFC 3261 section 20.16), without a look at the number before it.
+    pub fn cseq_method(&self) -> &[u8]
+        ensures { option_map (λ (c : CSeqText). c.method) (message_cseq self.now.headers) ≡ Some result.now }
+    {
+        let Some(value) = value_of(
+            MandatoryHeader::CSeq,
+            HeaderLines::new(&self.text, &self.lines),
+        ) else {
+            unreachable!()
+        };
+        let Some(behind) = cut_at_space(value).1 else {
+            unreachable!()
+        };
+        trim_start(behind)
     }
 
     /// The first Call-ID (RFC 3261 section 20.8).

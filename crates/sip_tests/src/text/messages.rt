@@ -42,6 +42,11 @@ fn are_the_fields(rt: &impl Abort, message: &Message<Global>) {
         is(message.cseq().method, b"OPTIONS"),
         "the method of the CSeq",
     );
+    holds(
+        rt,
+        is(message.cseq_method(), b"OPTIONS"),
+        "the method alone",
+    );
     holds(rt, is(message.call_id(), b"c1"), "the Call-ID");
     holds(rt, has(message.from_tag(), b"1"), "the tag of From");
     holds(rt, message.to_tag().is_none(), "no tag of To");
