@@ -1,9 +1,8 @@
 //! Contacts and URIs as they are cut: the address of a contact and its parameters, the port of a URI and its own.
 use crate::holds::holds_of;
-use authentication::{
-    ContactParams, UriParams, are_contact_params, form_of, is_named, is_uri_param, param_named,
-    param_value, port_of_uri,
-};
+use authentication::{ContactParams, UriParams, is_uri_param, param_named, port_of_uri};
+use sip_lex::{is_param_named, param_value};
+use sip_uri::{are_contact_params, form_of};
 
 /// The address of a contact; how many parameters it has, whether each is one, and what `expires` says.
 #[derive(Clone, Copy)]
@@ -40,7 +39,7 @@ fn has(value: Option<&[u8]>, wanted: Option<&[u8]>) -> bool {
 /// What the first `expires` of some parameters says, if there is one.
 fn expires_of(params: Option<&[u8]>) -> Option<&[u8]> {
     let param = param_named(params, b"expires")?;
-    if is_named(param, b"EXPIRES") {
+    if is_param_named(param, b"EXPIRES") {
         param_value(param)
     } else {
         None
