@@ -3,7 +3,7 @@
 use Rattle.std.proofs.Common.{◌≡◌, ℕ, ◌+◌, ◌<◌, Bool, true, false, cond, List, [], length, Option, Some, None, Result, Ok, Err, refl, sym, ap, subst, ◌∙◌, arith, append-nil}
 use Rattle.std.specs.Prelude.{option_and_then, bytes_eq, IfOk, IfErr}
 use Rattle.std.specs.Option.{option_map}
-use Rattle.std.specs.List.{slice_split}
+use Rattle.std.specs.List.{join_with_byte, slice_split}
 use Rattle.std.proofs.lemmas.Option.{same_Some}
 use Rattle.std.proofs.lemmas.Slice.Eq.{bytes_eq-Decides}
 use Rattle.std.proofs.lemmas.List.Splits.{join_with_byte-slice_split, length-slice_split}
@@ -16,6 +16,7 @@ use Rattle.fork_program.specs.declared.script.ScriptFault.TheVariants as read
 use Rattle.fork_program.specs.Line as lines
 use Rattle.fork_program.specs.Reading as plain
 use Rattle.fork_program.specs.Script as single
+use Rattle.fork_program.proofs.laws.FirstMalformed.{first_malformed}
 use Rattle.fork_program.proofs.laws.LineLaws as line_laws
 use Rattle.fork_program.proofs.laws.SpelledLines as laws
 use Rattle.fork_engine.specs.Workers.{Workers}
@@ -147,17 +148,11 @@ unfolding read_workers
 malformed_found text n e =
     let some : 0 < length (slice_split (is 10) text) = omega (arith, length-slice_split (is 10) text) in
     let h = malformed reader 1 no_draft (slice_split (is 10) text) n some (pieces_lack 10 text) e in
-    record {
-      lines = h.lines;
-      rest = h.rest;
-      number = let c : n ≡ 1 + length h.lines = h.counted in omega arith;
-      text_is = sym (join_with_byte-slice_split 10 text) ∙ h.whole;
-      begins = begins h.lines h.end h.right h.due;
-      wrong = λ line more at b.
-          let next = next_due h.lines line h.end h.due b in
-          none_some (sym (h.none line more next.fits at) ∙ next.due);
-      partial = λ workers is. ok_err (sym (workers_read text workers is) ∙ e);
-    }
+    first_malformed no_draft text (join_with_byte 10 (slice_split (is 10) text)) n (sym (join_with_byte-slice_split 10 text)) h begins
+    (λ lines line end due b.
+    let next = next_due lines line end due b in
+    (next.fits, (next.next, next.due)))
+    (λ workers is. ok_err (sym (workers_read text workers is) ∙ e))
 
 -- ---- so what a call gives says which text it was
 

@@ -13,6 +13,7 @@ use Rattle.fork_program.specs.Script.{read_script}
 use Rattle.fork_program.specs.Malformed.{IsMalformedAt}
 use Rattle.fork_program.specs.Grammar.{ReadExactly, RefusedByFirst}
 use Rattle.fork_program.specs.ReadView.{IsFaultOf}
+use Rattle.fork_program.proofs.laws.FirstMalformed.{first_malformed}
 use Rattle.fork_program.proofs.laws.LineLaws.{line_found}
 use Rattle.fork_program.proofs.laws.SpelledLines.{line_read, line_lacks}
 use Rattle.fork_program.proofs.laws.DraftedLines.{script_drafted, whole_found, begins, begins_with, lines_due, next_due}
@@ -80,25 +81,16 @@ read_exactly text script = (script_found text script, script_read text script)
 
 -- ---- what is refused
 
-none_some : {X : Type 0} {x : X} → None ≡ Some x → ⊥
-none_some e = absurd cc
-
 malformed_found : (text : List ℕ) (n : ℕ) → read_script text ≡ Err n → IsMalformedAt text n
 unfolding read_script
 malformed_found text n e =
     let some : 0 < length (slice_split (is 10) text) = omega (arith, length-slice_split (is 10) text) in
     let h = malformed reader 1 no_draft (slice_split (is 10) text) n some (pieces_lack 10 text) e in
-    record {
-      lines = h.lines;
-      rest = h.rest;
-      number = let c : n ≡ 1 + length h.lines = h.counted in omega arith;
-      text_is = sym (join_with_byte-slice_split 10 text) ∙ h.whole;
-      begins = begins h.lines h.end h.right h.due;
-      wrong = λ line more at b.
-          let next = next_due h.lines line h.end h.due b in
-          none_some (sym (h.none line more next.fits at) ∙ next.due);
-      partial = λ script is. ok_err (sym (script_read text script is) ∙ e);
-    }
+    first_malformed no_draft text (join_with_byte 10 (slice_split (is 10) text)) n (sym (join_with_byte-slice_split 10 text)) h begins
+    (λ lines line end due b.
+    let next = next_due lines line end due b in
+    (next.fits, (next.next, next.due)))
+    (λ script is. ok_err (sym (script_read text script is) ∙ e))
 
 -- the first malformed line is that which is told: the lines before it are read, and reading ends there
 reads_to : (number : ℕ) (draft : Draft) (rest : List ℕ) (pieces : List (List ℕ)) → rest ≡ join_with_byte 10 pieces
