@@ -34,10 +34,10 @@ fn reads_a_parameter(rt: HostRuntime) {
     holds(&rt, param_value(b"lr").is_none(), "no value");
 }
 
-/// Whether a copy with room is the text, and has that room.
+/// Whether a copy with room is the text, and has that much room behind it.
 fn has_room(alloc: Global, text: &[u8], room: usize) -> bool {
     match copy_with_room(&alloc, text, room) {
-        Ok(copy) => is(&copy, text) && copy.capacity() == text.len() + room,
+        Ok(copy) => is(&copy, text) && copy.capacity().saturating_sub(text.len()) >= room,
         Err(_) => false,
     }
 }
@@ -46,6 +46,12 @@ fn has_room(alloc: Global, text: &[u8], room: usize) -> bool {
 fn has_pieces_and_room(rt: HostRuntime) {
     holds(&rt, pieces_len(&[b"To", b": ", b"a"]) == 5, "five bytes");
     holds(&rt, has_room(rt.alloc(), b"abc", 4), "a copy with room");
+}
+
+/// Whether this stands behind the ends of lines in front of a text.
+fn begins_behind(text: &[u8], wanted: &[u8]) -> bool {
+    let end = skip_line_ends(text);
+    wanted.len() <= end.len() && is(part_at(text, place_at_end(text, end, wanted.len())), wanted)
 }
 
 /// Where the middle of `a b c` stands.
@@ -61,6 +67,5 @@ fn finds_parts_by_places(rt: HostRuntime) {
     let whole = PartPlace { start: 0, len: 5 };
     let two = whole.part(3, 9);
     holds(&rt, is(part_at(text, two), b" c"), "a part of a part");
-    let end = place_at_end(text, &text[4..], 1);
-    holds(&rt, is(part_at(text, end), b"c"), "the end");
+    holds(&rt, begins_behind(b"\r\na b c", b"a b"), "the end");
 }
