@@ -87,11 +87,10 @@ fn adds(
     parts.add_location(&alloc, user, 1000, uri, 15_000)
 }
 
-/// Whether parts take an instance and a location, and no location of a text that is no URI, nor one twice.
+/// Whether parts take a location, and none of a text that is no URI, nor one twice.
 fn takes(alloc: Global, parts: &mut SetupParts) -> bool {
     parts.set_instance(8);
-    parts.add(&alloc, SetupLine::Instance(7)) == Ok(true)
-        && adds(alloc, parts, b"bob", b"sip:bob@192.0.2.4") == Ok(true)
+    adds(alloc, parts, b"bob", b"sip:bob@192.0.2.4") == Ok(true)
         && adds(alloc, parts, b"bob", b"tel:+1") == Ok(false)
         && adds(alloc, parts, b"bob", b"sip:bob@192.0.2.4") == Ok(false)
 }
@@ -109,7 +108,7 @@ fn parts_of_a_setup_are_set_by_lines(rt: HostRuntime) {
     match SetupParts::new(&alloc) {
         Ok(mut parts) => {
             holds(&rt, rings(&mut parts), "how long it rings");
-            holds(&rt, takes(alloc, &mut parts), "a line and a location");
+            holds(&rt, takes(alloc, &mut parts), "a location");
         }
         Err(_) => holds(&rt, false, "there is memory"),
     }
