@@ -1,7 +1,6 @@
 mod Fronts
 pub mod Once
 pub mod Opened
-pub mod OwnCredentials
 pub mod Tokens
 pub mod Values
 pub mod Verdicts

@@ -15,36 +15,11 @@ use Rattle.sip_digest.specs.declared.algorithm.Algorithm.{Algorithm}
 use Rattle.sip_digest.specs.declared.algorithm.Algorithm.TheVariants.{Md5, Sha256}
 use Rattle.sip_digest.specs.Algorithm.{algorithm_name, digest_text}
 use Rattle.sip_digest.specs.Challenge.{challenge_text, stale_text}
-use Rattle.sip_digest.specs.Stamp.{nonce_text, seal_text, second_text}
+pub use Rattle.sip_digest.proofs.laws.StampLines.{nonce_line}
 use Rattle.authentication.specs.declared.challenge.Challenger.{Challenger}
 use Rattle.authentication.specs.declared.challenge.Challenger.TheVariants.{Server, Proxy}
 use Rattle.authentication.specs.Challenge.{challenge_line, challenge_name}
 use Rattle.authentication.specs.Realm.{is_realm_byte}
-
--- ---- nonces are within a line
-
-passes-at : (p : ℕ → Bool) (xs : List ℕ) (k : ℕ) → list_all p xs ≡ true → p 0 ≡ true → p (get_or xs k 0) ≡ true
-passes-at p [] k h z = z
-passes-at p (x ∷ xs) zero h z = (and_parts (p x) (list_all p xs) h).0
-passes-at p (x ∷ xs) (suc k) h z = passes-at p xs k (and_parts (p x) (list_all p xs) h).1 z
-
-passes-take : (p : ℕ → Bool) (n : ℕ) (xs : List ℕ) → list_all p xs ≡ true → list_all p (take n xs) ≡ true
-passes-take p zero xs h = refl
-passes-take p (suc n) [] h = refl
-passes-take p (suc n) (x ∷ xs) h =
-    let each = and_parts (p x) (list_all p xs) h in
-    and_both (p x) (list_all p (take n xs)) each.0 (passes-take p n xs each.1)
-
-hex-line : (bytes : List ℕ) → is_line (encode_lower bytes) ≡ true
-unfolding encode_with
-hex-line [] = refl
-hex-line (b ∷ bytes) = grind (arith, passes-at is_line_byte lower_digits, and_both, hex-line bytes)
-
-pub nonce_line : (secret address : List ℕ) (second : ℕ) → is_line (nonce_text secret address second) ≡ true
-unfolding digest_text
-nonce_line secret address second =
-    line-append (second_text second) (take 32 (seal_text secret (codes "n") second address)) (hex-line (to_be_bytes w32 second))
-    (passes-take is_line_byte 32 (seal_text secret (codes "n") second address) (hex-line (sha256 (secret ++ codes "n" ++ second_text second ++ address))))
 
 -- ---- the name of a realm is within a line
 

@@ -7,7 +7,6 @@ pub mod Form
 pub mod Given
 pub mod Note
 pub mod Noted
-pub mod OwnCredentials
 pub mod Party
 pub mod Realm
 pub mod SeenDecision

@@ -1,4 +1,4 @@
-//! Tests of the public calls of `sip_digest` and `user_list`, in files named for what is tested. They stand apart from these
+//! Tests of the public calls of `sip_digest`, in files named for what is tested. They stand apart from these
 //! crates so that none of them is proved twice.
 #![tactic(auto)]
 
@@ -14,5 +14,7 @@ mod readings;
 mod responses;
 #[cfg(test)]
 mod stamps;
+#[cfg(test)]
+mod taken_off;
 #[cfg(test)]
 mod verdicts;

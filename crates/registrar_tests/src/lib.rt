@@ -29,6 +29,4 @@ mod requests;
 #[cfg(test)]
 mod standings;
 #[cfg(test)]
-mod taken_off;
-#[cfg(test)]
 mod world;

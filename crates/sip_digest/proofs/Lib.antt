@@ -7,6 +7,7 @@ pub mod Indexed
 pub mod Listed
 pub mod Named
 pub mod NamedFields
+pub mod OwnCredentials
 pub mod Readings
 pub mod Schemes
 pub mod Sheltered
@@ -14,5 +15,6 @@ pub mod Stamps
 pub mod Steps
 pub mod Targets
 pub mod Texts
+pub mod laws
 pub mod UserLines
 pub mod UsersCommon

@@ -2,6 +2,7 @@ pub mod Algorithm
 pub mod AuthParam
 pub mod Challenge
 pub mod Credentials
+pub mod OwnCredentials
 pub mod Response
 pub mod Right
 pub mod Secrets

@@ -1,5 +1,5 @@
 //! Digest authentication as a server has it (RFC 3261 section 22, RFC 7616 and RFC 8760): challenges, nonces that need no memory, credentials as they are
-//! read, the response that a password gives, and whether credentials are right. And the users of a realm with what their passwords are known by, read of
+//! read, the response that a password gives, whether credentials are right, and those that do not go on with a request. And the users of a realm with what their passwords are known by, read of
 //! exactly the texts that list them.
 #![tactic(auto)]
 
@@ -10,6 +10,7 @@ mod credentials;
 mod digests;
 mod element;
 mod fields;
+mod own_credentials;
 mod reading;
 mod request_uri;
 mod response;
@@ -26,6 +27,7 @@ pub use algorithm::{Algorithm, Algorithms};
 pub use auth_text::AuthText;
 pub use challenge::append_challenge;
 pub use credentials::{Credentials, Quality};
+pub use own_credentials::is_taken_off;
 pub use reading::{ReadCredentials, read_credentials};
 pub use request_uri::is_uri_of;
 pub use response::{Protection, md5_response, sha256_response};

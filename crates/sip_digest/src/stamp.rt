@@ -1,6 +1,7 @@
 //! Texts that nobody else can make, and that say when they were made: nonces and the tokens of dialogs.
-ghost use Rattle.std.specs.Prelude.{◌≡◌, ◌≤◌, ◌<◌, ◌^◌, ◌+◌, ◌++◌, ◌↔◌, ℕ, List, IsTrue, OnErr, OnOk, Some};
+ghost use Rattle.std.specs.Prelude.{◌≡◌, ◌≤◌, ◌<◌, ◌^◌, ◌+◌, ◌++◌, ◌↔◌, ℕ, List, true, IsTrue, OnErr, OnOk, Some};
 ghost use Rattle.std.specs.Str.{bytes_eq};
+ghost use Rattle.sip_lex.specs.Values.{is_line};
 ghost use Rattle.sip_digest.specs.Stamp.{IsGoodNonce, IsGoodToken, IsStamp, nonce_text, seal_text, second_text, stamp_text, token_text};
 
 use crate::digests::sha256_of;
@@ -159,6 +160,8 @@ pub fn append_dialog_token<B: Allocator>(
     second: u32,
 ) -> Result<(), AllocError>
     ensures ok { OnOk result (out.new.items ≡ out.old.items ++ token_text secret.now call_id.now second) }
+    // It may stand in a header line.
+    ensures line { is_line (token_text secret.now call_id.now second) ≡ true }
     ensures err { OnErr result (out.new.items ≡ out.old.items) }
 {
     append_stamp(out, TOKEN, secret.as_slice(), b"d", second, call_id)

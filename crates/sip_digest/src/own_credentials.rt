@@ -2,9 +2,9 @@
 ghost use Rattle.std.specs.Prelude.{◌≡◌, ◌↔◌, IfOk, IsTrue, codes, is_some};
 ghost use Rattle.sip_text.specs.Name.{same_name};
 ghost use Rattle.sip_digest.specs.SeenCredentials.{seen_reading};
-ghost use Rattle.authentication.specs.OwnCredentials.{IsTakenOff};
+ghost use Rattle.sip_digest.specs.OwnCredentials.{IsTakenOff};
 
-use sip_digest::{ReadCredentials, read_credentials};
+use crate::reading::{ReadCredentials, read_credentials};
 use sip_text::HeaderLine;
 use std::alloc::{AllocError, Allocator};
 

