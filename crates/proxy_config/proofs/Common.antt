@@ -11,7 +11,7 @@ pub use Rattle.fork_model.specs.Table.{most_targets}
 pub use Rattle.proxy_config.specs.Configuration.{lines_of}
 pub use Rattle.proxy_config.specs.Line.{DepthLine, DomainLine, InstanceLine, IsOwn, Line, LocationLine, OwnLine, PreferLine, is_user, line_text, most_instance, most_port, own_text}
 pub use Rattle.proxy_config.specs.ReadView.{GivesSetup}
-pub use Rattle.proxy_config.specs.Setup.{KeepsFrom, Location, MayFollow, Setup, is_by_datagram, is_same, locations_of, next_hop}
+pub use Rattle.proxy_config.specs.Setup.{KeepsFrom, Location, MayFollow, Setup, is_reached_by, is_same, locations_of, next_hop}
 pub use Rattle.proxy_config.specs.Line.{IsLine}
 pub use Rattle.proxy_config.specs.LineReading.{fourth, location_cut, location_of, octet_before, octet_cut, own_at, own_cut, read_line, read_location, read_octets, read_own, second, third}
 pub use Rattle.proxy_config.specs.inner.Reading.{Draft, drafted, drafted_line, finished_draft, is_whole, no_draft, read_from}

@@ -1,6 +1,6 @@
 -- Lines one after another: how far they lead, and what they set.
 use Rattle.proxy_config.proofs.Common.{◌≡◌, ℕ, ◌≤◌, Bool, true, false, not, cond, List, [], ◌∷◌, ◌++◌, map, length, Option, Some, None, Result, Ok, Err, refl, sym, ap, subst, ◌∙◌, arith, append_assoc, append-nil, option_and_then, codes}
-use Rattle.proxy_config.proofs.Common.{is_by_datagram, option_map, list_any, AllByRecursion, and_parts, and_from, cond_some, same_Some, Lacks, Lacks-pass, most_targets, most_q, found_map, found_then, all_append, preferred_found, next_hop, is_host}
+use Rattle.proxy_config.proofs.Common.{is_reached_by, option_map, list_any, AllByRecursion, and_parts, and_from, cond_some, same_Some, Lacks, Lacks-pass, most_targets, most_q, found_map, found_then, all_append, preferred_found, next_hop, is_host}
 use Rattle.proxy_config.proofs.Common.{Own, Location, Setup, MayFollow, KeepsFrom, is_same, locations_of, Line, OwnLine, InstanceLine, DomainLine, PreferLine, DepthLine, LocationLine, IsOwn, most_instance, IsLine, lines_of, read_line, Draft}
 use Rattle.proxy_config.proofs.Common.{no_draft, drafted_line, drafted, is_whole}
 use Rattle.std.specs.Prelude.{◌&&◌, nat_lt}
@@ -20,7 +20,8 @@ use Rattle.sip_uri.proofs.laws.Found.{found}
 use Rattle.sip_uri.proofs.laws.Only.{read_again}
 use Rattle.proxy_config.specs.declared.draft.SetupPhase.{SetupPhase}
 use Rattle.proxy_config.specs.declared.draft.SetupPhase.TheVariants.{AtOwn, AtInstance, AtDomain, AtPrefer, AtDepth, AtLocations}
-use Rattle.proxy_config.specs.Setup.{usual_longest}
+use Rattle.proxy_config.specs.declared.dialog_token.DialogToken.{DialogToken}
+use Rattle.proxy_config.specs.Setup.{Way, usual_longest}
 use Rattle.proxy_config.specs.Configuration.{Shown, line_if, location_line, AreRules, IsLocation, IsSetup, Begins}
 use Rattle.proxy_config.specs.inner.Reading.{IsSound, phase_after, in_phase}
 use Rattle.proxy_config.specs.Parts.{as_read, uri_if, may_follow, added, with_location, with_line}
@@ -33,15 +34,15 @@ drafted_lines = texts.drafted_lines drafted_line
 
 -- ---- the lines of a setup may come
 
-passes : (earlier : List Location) (location : Location) → MayFollow earlier location → may_follow earlier location ≡ true
+passes : (earlier : List Location) (location : Location) → MayFollow false earlier location → may_follow false earlier location ≡ true
 passes earlier location h = and_from _ _ (and_from _ _ h.hop (ap not h.apart)) (lt-ltb _ _ h.few)
 
-location_added : (earlier : List Location) (location : Location) → MayFollow earlier location → IsLocation location
+location_added : (earlier : List Location) (location : Location) → MayFollow false earlier location → IsLocation location
     → with_location earlier location.user location.q (spelling location.uri) usual_longest ≡ Some (earlier ++ location ∷ [])
 location_added earlier location may h =
-    ap (λ (r : Result Uri UriFault). option_and_then (λ uri. added earlier (as_read location.user location.q usual_longest uri)) (uri_if r)) (read_again location.uri h.uri)
-    ∙ ap (λ (o : Option Hop). added earlier (record location { hop = o; longest = usual_longest })) (sym h.no_hop)
-    ∙ ap (λ (n : ℕ). added earlier (record location { longest = n })) (sym h.longest)
+    ap (λ (r : Result Uri UriFault). option_and_then (λ uri. added false earlier (as_read location.user location.q usual_longest uri)) (uri_if r)) (read_again location.uri h.uri)
+    ∙ ap (λ (o : Option Hop). added false earlier (record location { hop = o; longest = usual_longest })) (sym h.no_hop)
+    ∙ ap (λ (n : ℕ). added false earlier (record location { longest = n })) (sym h.longest)
     ∙ ap (λ t. cond t (Some (earlier ++ location ∷ [])) None) (passes earlier location may)
 
 abbrev TakesLocations : SetupPhase → Type 0
@@ -50,7 +51,7 @@ TakesLocations phase = (user : List ℕ) (q : ℕ) (uri : List ℕ) → phase_af
 abbrev with_one : Setup → Location → Setup
 with_one setup location = record setup { locations = setup.locations ++ location ∷ [] }
 
-location_drafted : (phase : SetupPhase) (setup : Setup) (location : Location) → TakesLocations phase → MayFollow setup.locations location → IsLocation location
+location_drafted : (phase : SetupPhase) (setup : Setup) (location : Location) → TakesLocations phase → MayFollow false setup.locations location → IsLocation location
     → drafted_line (in_phase setup phase) (location_line location) ≡ Some (in_phase (with_one setup location) AtLocations)
 location_drafted phase setup location takes may h =
     ap (option_and_then (λ p. option_map (λ s. in_phase s p) (with_line setup (location_line location)))) (takes location.user location.q (spelling location.uri))
@@ -62,7 +63,7 @@ pub record Reached (draft : Draft) (lines : List Line) (setup : Setup) : Type 0 
   pub due : drafted_lines draft lines ≡ Some (in_phase setup phase)
   pub whole : is_whole phase ≡ true
 
-locations_drafted : (phase : SetupPhase) (setup : Setup) (locations : List Location) → TakesLocations phase → is_whole phase ≡ true → KeepsFrom setup.locations locations → AllByRecursion IsLocation locations
+locations_drafted : (phase : SetupPhase) (setup : Setup) (locations : List Location) → TakesLocations phase → is_whole phase ≡ true → KeepsFrom false setup.locations locations → AllByRecursion IsLocation locations
     → Reached (in_phase setup phase) (map location_line locations) (record setup { locations = setup.locations ++ locations })
 locations_drafted phase setup [] takes whole kept all = record {
   phase = phase;
@@ -81,21 +82,24 @@ locations_drafted phase setup (location ∷ locations) takes whole kept all =
 
 -- before its first location
 abbrev head : Own → ℕ → List ℕ → Rules → Setup
-head own instance domain rules = record { own = own; instance = instance; domain = domain; rules = rules; locations = []; by_port = false; for_service = false; ring = usual_longest; records = false; stamps = false; reasons = false; streams = false }
+head own instance domain rules = record { own = own; instance = instance; domain = domain; rules = rules; locations = []; by_port = false; for_service = false; ring = usual_longest; records = false; stamps = false; reasons = false; streams = false; ways = []; realm = None; token = None }
 
 -- as lines spell it: none says the others
 abbrev spelled_as : Setup → Setup
-spelled_as s = record s { by_port = false; for_service = false; ring = usual_longest; records = false; stamps = false; reasons = false; streams = false }
+spelled_as s = record s { by_port = false; for_service = false; ring = usual_longest; records = false; stamps = false; reasons = false; streams = false; ways = []; realm = None; token = None }
 
 spelled_same : (shown : Shown) (s : Setup) → IsSetup shown s → spelled_as s ≡ s
 spelled_same shown s h =
-    ap (λ (b : Bool). record s { by_port = b; for_service = false; ring = usual_longest; records = false; stamps = false; reasons = false; streams = false }) (sym h.by_port)
-    ∙ ap (λ (b : Bool). record s { for_service = b; ring = usual_longest; records = false; stamps = false; reasons = false; streams = false }) (sym h.for_service)
-    ∙ ap (λ (n : ℕ). record s { ring = n; records = false; stamps = false; reasons = false; streams = false }) (sym h.ring)
-    ∙ ap (λ (b : Bool). record s { records = b; stamps = false; reasons = false; streams = false }) (sym h.records)
-    ∙ ap (λ (b : Bool). record s { stamps = b; reasons = false; streams = false }) (sym h.stamps)
-    ∙ ap (λ (b : Bool). record s { reasons = b; streams = false }) (sym h.reasons)
-    ∙ ap (λ (b : Bool). record s { streams = b }) (sym h.streams)
+    ap (λ (b : Bool). record s { by_port = b; for_service = false; ring = usual_longest; records = false; stamps = false; reasons = false; streams = false; ways = []; realm = None; token = None }) (sym h.by_port)
+    ∙ ap (λ (b : Bool). record s { for_service = b; ring = usual_longest; records = false; stamps = false; reasons = false; streams = false; ways = []; realm = None; token = None }) (sym h.for_service)
+    ∙ ap (λ (n : ℕ). record s { ring = n; records = false; stamps = false; reasons = false; streams = false; ways = []; realm = None; token = None }) (sym h.ring)
+    ∙ ap (λ (b : Bool). record s { records = b; stamps = false; reasons = false; streams = false; ways = []; realm = None; token = None }) (sym h.records)
+    ∙ ap (λ (b : Bool). record s { stamps = b; reasons = false; streams = false; ways = []; realm = None; token = None }) (sym h.stamps)
+    ∙ ap (λ (b : Bool). record s { reasons = b; streams = false; ways = []; realm = None; token = None }) (sym h.reasons)
+    ∙ ap (λ (b : Bool). record s { streams = b; ways = []; realm = None; token = None }) (sym h.streams)
+    ∙ ap (λ (ws : List Way). record s { ways = ws; realm = None; token = None }) (sym h.ways)
+    ∙ ap (λ (r : Option (List ℕ)). record s { realm = r; token = None }) (sym h.realm)
+    ∙ ap (λ (t : Option DialogToken). record s { token = t }) (sym h.token)
 
 setup_drafted_as : (prefer depth : Bool) (s : Setup) → IsSetup (record { prefer = prefer; depth = depth }) s → Reached no_draft (lines_of (record { prefer = prefer; depth = depth }) s) (spelled_as s)
 setup_drafted_as true true s h =
@@ -133,7 +137,7 @@ setup_drafted shown s h = subst (λ (t : Setup). Reached no_draft (lines_of show
 abbrev pub Fits : Line → Type 0
 Fits line = IsLine line × UriLacks line
 
-locations_fit : (earlier locations : List Location) → KeepsFrom earlier locations → AllByRecursion IsLocation locations → AllByRecursion Fits (map location_line locations)
+locations_fit : (earlier locations : List Location) → KeepsFrom false earlier locations → AllByRecursion IsLocation locations → AllByRecursion Fits (map location_line locations)
 locations_fit earlier [] kept all = tt
 locations_fit earlier (location ∷ locations) kept all =
     let bytes : Lacks 10 (spelling location.uri) = Lacks-pass is_uri_byte 10 (spelling location.uri) refl all.0.uri.bytes in
@@ -162,7 +166,7 @@ setup_fits shown s h = (
 record BehindRules (s : Setup) (lines : List Line) (next : Draft) : Type 0 where
   more : List Location
   spelled : map location_line more ≡ lines
-  kept : KeepsFrom s.locations more
+  kept : KeepsFrom false s.locations more
   right : AllByRecursion IsLocation more
   same : record s { locations = s.locations ++ more } ≡ next.setup
 
@@ -182,20 +186,30 @@ uri_found text uri e = go (read_uri text) refl e
     go (Ok other) is e = found text uri (is ∙ ap Ok (same_Some _ _ e))
     go (Err fault) is e = absurd cc
 
-pub may_is : (earlier : List Location) (location : Location) → location.q ≤ most_q → may_follow earlier location ≡ true → MayFollow earlier location
-may_is earlier location within h =
-    let all = and_parts (is_by_datagram (next_hop location) && not (list_any (is_same location) earlier)) (nat_lt (length (locations_of location.user earlier)) most_targets) h in
-    let two = and_parts (is_by_datagram (next_hop location)) (not (list_any (is_same location) earlier)) all.0 in
+pub may_is : (streams : Bool) (earlier : List Location) (location : Location) → location.q ≤ most_q → may_follow streams earlier location ≡ true
+    → MayFollow streams earlier location
+may_is streams earlier location within h =
+    let all = and_parts (is_reached_by streams (next_hop location) && not (list_any (is_same location) earlier)) (nat_lt (length (locations_of location.user earlier)) most_targets) h in
+    let two = and_parts (is_reached_by streams (next_hop location)) (not (list_any (is_same location) earlier)) all.0 in
     record { hop = two.0; q = within; apart = is_not (list_any (is_same location) earlier) two.1; few = ltb-true _ _ all.1 }
   where
     is_not : (b : Bool) → not b ≡ true → b ≡ false
     is_not true e = absurd cc
     is_not false e = refl
 
+-- one more may follow them all
+pub keeps_more : (streams : Bool) (earlier locations : List Location) (location : Location) → KeepsFrom streams earlier locations → MayFollow streams (earlier ++ locations) location
+    → KeepsFrom streams earlier (locations ++ location ∷ [])
+keeps_more streams earlier [] location kept may = (subst (λ (ls : List Location). MayFollow streams ls location) (append-nil earlier) may, tt)
+keeps_more streams earlier (l ∷ locations) location kept may = (
+  kept.0,
+  keeps_more streams (earlier ++ l ∷ []) locations location kept.1 (subst (λ (ls : List Location). MayFollow streams ls location) (sym (append_assoc earlier (l ∷ []) locations)) may),
+)
+
 record Stepped (s : Setup) (user : List ℕ) (q : ℕ) (uri : List ℕ) (next : Draft) : Type 0 where
   location : Location
   line : location_line location ≡ LocationLine user q uri
-  may : MayFollow s.locations location
+  may : MayFollow false s.locations location
   is : IsLocation location
   same : in_phase (with_one s location) AtLocations ≡ next
 
@@ -204,15 +218,15 @@ location_step : (s : Setup) (user : List ℕ) (q : ℕ) (uri : List ℕ) (next :
 location_step s user q uri next h e =
     found_map (λ t. in_phase t AtLocations) (with_line s (LocationLine user q uri)) next (Stepped s user q uri)
     (λ t at1. found_map (λ ls. record s { locations = ls }) (with_location s.locations user q uri usual_longest) t (λ t. Stepped s user q uri (in_phase t AtLocations))
-    (λ ls at2. found_then (λ u. added s.locations (as_read user q usual_longest u)) (uri_if (read_uri uri)) ls (Stepped s user q uri (in_phase (record s { locations = ls }) AtLocations))
+    (λ ls at2. found_then (λ u. added false s.locations (as_read user q usual_longest u)) (uri_if (read_uri uri)) ls (Stepped s user q uri (in_phase (record s { locations = ls }) AtLocations))
     (λ u at3 is.
     let location : Location = as_read user q usual_longest u in
-    let g = cond_some (may_follow s.locations location) (s.locations ++ location ∷ []) ls is in
+    let g = cond_some (may_follow false s.locations location) (s.locations ++ location ∷ []) ls is in
     let f = uri_found uri u at3 in
     record {
       location = location;
       line = ap (λ (t : List ℕ). LocationLine user q t) (sym f.1);
-      may = may_is s.locations location h.1 g.0;
+      may = may_is false s.locations location h.1 g.0;
       is = record { user = h.0; uri = f.0; no_hop = refl; longest = refl };
       same = ap (λ (xs : List Location). in_phase (record s { locations = xs }) AtLocations) g.1;
     }) at2) at1)
@@ -265,7 +279,7 @@ close shown own instance domain rules lines next h are b =
     let P : Setup → Type 0 = LinesFound (head_lines own instance domain (line_if shown.prefer (PreferLine rules.preferred) ++ (line_if shown.depth (DepthLine rules.depth) ++ lines))) in
     subst P b.same (record {
       shown = shown;
-      is = record { own = h.own_is; instance = h.within; domain = h.host; rules = are; locations = b.right; kept = b.kept; by_port = refl; for_service = refl; ring = refl; records = refl; stamps = refl; reasons = refl; streams = refl };
+      is = record { own = h.own_is; instance = h.within; domain = h.host; rules = are; locations = b.right; kept = b.kept; by_port = refl; for_service = refl; ring = refl; records = refl; stamps = refl; reasons = refl; streams = refl; ways = refl; realm = refl; token = refl };
       spelled = ap (λ (ls : List Line). head_lines own instance domain (line_if shown.prefer (PreferLine rules.preferred) ++ (line_if shown.depth (DepthLine rules.depth) ++ ls))) b.spelled;
     })
 

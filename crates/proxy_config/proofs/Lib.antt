@@ -4,6 +4,8 @@ pub mod LineLaws
 pub mod SpelledLines
 pub mod DraftedLines
 pub mod Texts
+pub mod Moments
 pub mod Ringing
+pub mod Streams
 pub mod Targets
 pub mod UserPlaces

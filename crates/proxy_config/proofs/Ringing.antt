@@ -32,8 +32,8 @@ still_few longest user earlier few =
     ap (λ (ls : List Location). length ls) (same_user longest user earlier) ∙ length-map (locations_of user earlier) (with_longest longest) in
     subst (λ (n : ℕ). n < most_targets) (sym same) few
 
-still_follows : (longest : ℕ) (earlier : List Location) (location : Location) → MayFollow earlier location → MayFollow (rung longest earlier) (with_longest longest location)
-still_follows longest earlier location h = record {
+still_follows : (streams : Bool) (longest : ℕ) (earlier : List Location) (location : Location) → MayFollow streams earlier location → MayFollow streams (rung longest earlier) (with_longest longest location)
+still_follows streams longest earlier location h = record {
   hop = h.hop;
   q = h.q;
   apart = same_any longest location earlier ∙ h.apart;
@@ -41,12 +41,12 @@ still_follows longest earlier location h = record {
 }
 
 -- each may follow those before it, as it did
-pub still_keeps : (longest : ℕ) (earlier locations : List Location) → KeepsFrom earlier locations → KeepsFrom (rung longest earlier) (rung longest locations)
-still_keeps longest earlier [] kept = tt
-still_keeps longest earlier (location ∷ locations) kept = (
-  still_follows longest earlier location kept.0,
-  subst (λ (ls : List Location). KeepsFrom ls (rung longest locations)) (map-append (with_longest longest) earlier (location ∷ []))
-      (still_keeps longest (earlier ++ location ∷ []) locations kept.1),
+pub still_keeps : (streams : Bool) (longest : ℕ) (earlier locations : List Location) → KeepsFrom streams earlier locations → KeepsFrom streams (rung longest earlier) (rung longest locations)
+still_keeps streams longest earlier [] kept = tt
+still_keeps streams longest earlier (location ∷ locations) kept = (
+  still_follows streams longest earlier location kept.0,
+  subst (λ (ls : List Location). KeepsFrom streams ls (rung longest locations)) (map-append (with_longest longest) earlier (location ∷ []))
+      (still_keeps streams longest (earlier ++ location ∷ []) locations kept.1),
 )
 
 -- what stands at places stands there still

@@ -1,5 +1,5 @@
 -- The locations of a user are targets of a request.
-use Rattle.proxy_config.proofs.Common.{◌≡◌, ℕ, ◌+◌, ◌<◌, ◌≤◌, Bool, true, false, cond, List, [], ◌∷◌, ◌++◌, map, length, Some, refl, sym, ap, subst, ◌∙◌, arith, append_assoc, append-nil, inl, inr, is_by_datagram, list_any, and_from, same_Some}
+use Rattle.proxy_config.proofs.Common.{◌≡◌, ℕ, ◌+◌, ◌<◌, ◌≤◌, Bool, true, false, cond, List, [], ◌∷◌, ◌++◌, map, length, Some, refl, sym, ap, subst, ◌∙◌, arith, append_assoc, append-nil, inl, inr, is_reached_by, list_any, and_from, same_Some}
 use Rattle.proxy_config.proofs.Common.{bytes_eq-Decides, most_targets, most_q, next_hop, Location, locations_of, is_same, MayFollow, KeepsFrom, all_append}
 use Rattle.std.proofs.Common.{zero, suc}
 use Rattle.std.specs.Prelude.{slice_get, ◌⊎◌, ◌||◌}
@@ -18,8 +18,8 @@ get_last (z ∷ xs) x y (suc n) e = elim (get_last xs x y n e) [
   | inr h ↦ inr (omega (arith, h.0), h.1)
 ]
 
-abbrev HasHop : Location → Type 0
-HasHop location = is_by_datagram (next_hop location) ≡ true
+abbrev HasHop : (streams : Bool) → Location → Type 0
+HasHop streams location = is_reached_by streams (next_hop location) ≡ true
 
 abbrev HasWeight : Location → Type 0
 HasWeight location = location.q ≤ most_q
@@ -28,13 +28,13 @@ abbrev keys : List Location → List (List ℕ)
 keys locations = map location_key locations
 
 -- one more that is not there yet
-one_more : (locations : List Location) (location : Location) → AreTargets locations → length locations < most_targets
-    → ((m : ℕ) → slice_get (keys locations) m ≡ Some (location_key location) → ⊥) → HasHop location → HasWeight location
-    → AreTargets (locations ++ location ∷ [])
-one_more locations location h few new hop q = record {
+one_more : (streams : Bool) (locations : List Location) (location : Location) → AreTargets streams locations → length locations < most_targets
+    → ((m : ℕ) → slice_get (keys locations) m ≡ Some (location_key location) → ⊥) → HasHop streams location → HasWeight location
+    → AreTargets streams (locations ++ location ∷ [])
+one_more streams locations location h few new hop q = record {
   few = omega (arith, few, length-append locations (location ∷ []));
   apart = λ m n key before at_m at_n. apart_still m n key before (sym (ap (λ (ks : List (List ℕ)). slice_get ks m) split) ∙ at_m) (sym (ap (λ (ks : List (List ℕ)). slice_get ks n) split) ∙ at_n);
-  hops = all_append HasHop locations (location ∷ []) h.hops (hop, tt);
+  hops = all_append (HasHop streams) locations (location ∷ []) h.hops (hop, tt);
   weights = all_append HasWeight locations (location ∷ []) h.weights (q, tt);
 }
   where
@@ -77,28 +77,28 @@ is_new location (other ∷ earlier) none m at =
     one true is differs (suc n) at again = again n at
     one false is differs n at again = again n at
 
-user_more : (user : List ℕ) (earlier : List Location) (location : Location) → AreTargets (locations_of user earlier) → MayFollow earlier location
-    → AreTargets (locations_of user (earlier ++ location ∷ []))
-user_more user earlier location h may =
-    subst AreTargets (sym (filter-append (is_of_user user) earlier (location ∷ []))) (one (is_of_user user location) refl)
+user_more : (streams : Bool) (user : List ℕ) (earlier : List Location) (location : Location) → AreTargets streams (locations_of user earlier) → MayFollow streams earlier location
+    → AreTargets streams (locations_of user (earlier ++ location ∷ []))
+user_more streams user earlier location h may =
+    subst (AreTargets streams) (sym (filter-append (is_of_user user) earlier (location ∷ []))) (one (is_of_user user location) refl)
   where
-    one : (b : Bool) → is_of_user user location ≡ b → AreTargets (locations_of user earlier ++ cond b (location ∷ []) [])
+    one : (b : Bool) → is_of_user user location ≡ b → AreTargets streams (locations_of user earlier ++ cond b (location ∷ []) [])
     one true is =
         let same : location.user ≡ user = (bytes_eq-Decides location.user user).0 is in
         let few : length (locations_of user earlier) < most_targets = subst (λ (u : List ℕ). length (locations_of u earlier) < most_targets) same may.few in
         let P : List ℕ → Type 0 = λ u. (m : ℕ) → slice_get (keys (locations_of u earlier)) m ≡ Some (location_key location) → ⊥ in
-        one_more (locations_of user earlier) location h few (subst P same (is_new location earlier may.apart)) may.hop may.q
-    one false is = subst AreTargets (sym (append-nil (locations_of user earlier))) h
+        one_more streams (locations_of user earlier) location h few (subst P same (is_new location earlier may.apart)) may.hop may.q
+    one false is = subst (AreTargets streams) (sym (append-nil (locations_of user earlier))) h
 
-user_all : (user : List ℕ) (earlier locations : List Location) → AreTargets (locations_of user earlier) → KeepsFrom earlier locations
-    → AreTargets (locations_of user (earlier ++ locations))
-user_all user earlier [] h kept = subst (λ (ls : List Location). AreTargets (locations_of user ls)) (sym (append-nil earlier)) h
-user_all user earlier (location ∷ locations) h kept =
-    subst (λ (ls : List Location). AreTargets (locations_of user ls)) (append_assoc earlier (location ∷ []) locations)
-    (user_all user (earlier ++ location ∷ []) locations (user_more user earlier location h kept.0) kept.1)
+user_all : (streams : Bool) (user : List ℕ) (earlier locations : List Location) → AreTargets streams (locations_of user earlier) → KeepsFrom streams earlier locations
+    → AreTargets streams (locations_of user (earlier ++ locations))
+user_all streams user earlier [] h kept = subst (λ (ls : List Location). AreTargets streams (locations_of user ls)) (sym (append-nil earlier)) h
+user_all streams user earlier (location ∷ locations) h kept =
+    subst (λ (ls : List Location). AreTargets streams (locations_of user ls)) (append_assoc earlier (location ∷ []) locations)
+    (user_all streams user (earlier ++ location ∷ []) locations (user_more streams user earlier location h kept.0) kept.1)
 
-none_yet : AreTargets []
-none_yet = record { few = omega arith; apart = λ m n key before at_m at_n. absurd cc; hops = tt; weights = tt }
+none_yet : (streams : Bool) → AreTargets streams []
+none_yet streams = record { few = omega arith; apart = λ m n key before at_m at_n. absurd cc; hops = tt; weights = tt }
 
 pub locations_are_targets : LocationsAreTargets
-locations_are_targets user locations kept = user_all user [] locations none_yet kept
+locations_are_targets streams user locations kept = user_all streams user [] locations (none_yet streams) kept

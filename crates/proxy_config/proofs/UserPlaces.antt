@@ -1,6 +1,6 @@
 -- The places of each user's locations, where one more location or place is added.
 use Rattle.proxy_config.proofs.Common.{◌≡◌, ℕ, Bool, true, false, cond, List, [], ◌∷◌, ◌++◌, map, length, Option, Some, None, refl, sym, ap, subst, ◌∙◌, append-nil, list_any, bytes_eq-Decides, same_Some}
-use Rattle.proxy_config.proofs.Common.{Location, next_hop, is_same, is_by_datagram, locations_of, most_targets, not}
+use Rattle.proxy_config.proofs.Common.{Location, next_hop, is_same, is_reached_by, locations_of, most_targets, not}
 use Rattle.std.proofs.Common.{◌≢◌, Ordering, Vec, zero, suc}
 use Rattle.std.specs.BTreeMap.{BTreeMap, get_by, is_at}
 use Rattle.std.specs.Cmp.Lexicographic.{slice_cmp}
@@ -192,11 +192,11 @@ abbrev may_get : Bool → ℕ → Bool
 may_get is_there count = not is_there && nat_lt count most_targets
 
 -- what may follow is told by the places of the user's locations
-pub may_follow_by : {A : Type 0} (locations : List Location) (location : Location) (index : UserPlaces A) → AreOf locations index → is_by_datagram (next_hop location) ≡ true
+pub may_follow_by : {A : Type 0} (streams : Bool) (locations : List Location) (location : Location) (index : UserPlaces A) → AreOf locations index → is_reached_by streams (next_hop location) ≡ true
     → (user key : List ℕ) → user ≡ location.user → key ≡ location_key location → (places : List ℕ) → places ≡ places_of index user
     → (has : Bool) → has ≡ list_any (λ place. has_key key (slice_get locations place)) places → (count : ℕ) → count ≡ length places
-    → (may : Bool) → may ≡ (not has && nat_lt count most_targets) → may ≡ may_follow locations location
-may_follow_by locations location index are hop user key user_is key_is places places_are has has_is count count_is may is =
+    → (may : Bool) → may ≡ (not has && nat_lt count most_targets) → may ≡ may_follow streams locations location
+may_follow_by streams locations location index are hop user key user_is key_is places places_are has has_is count count_is may is =
     let found : AreAt locations places (locations_of location.user locations) =
     subst (λ (ns : List ℕ). AreAt locations ns (locations_of location.user locations)) (sym (places_are ∙ ap (λ (text : List ℕ). places_of index text) user_is)) (are location.user) in
     is

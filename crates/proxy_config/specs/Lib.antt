@@ -3,8 +3,10 @@ pub mod Form
 pub mod Line
 pub mod LineReading
 pub mod LineView
+pub mod Moment
 pub mod Parts
 pub mod ReadView
 pub mod Setup
 pub mod TextLine
+pub mod Ways
 pub mod inner

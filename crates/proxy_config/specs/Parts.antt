@@ -9,30 +9,31 @@ use Rattle.sip_uri.specs.Uri.{Uri}
 use Rattle.sip_uri.specs.declared.fault.UriFault.{UriFault}
 use Rattle.sip_uri.specs.declared.hop.Transport.TheVariants.{Udp}
 use Rattle.proxy_config.specs.Line.{Line, OwnLine, InstanceLine, DomainLine, PreferLine, DepthLine, LocationLine}
-use Rattle.proxy_config.specs.Setup.{Setup, Location, is_by_datagram, is_same, locations_of, next_hop, usual_longest}
+use Rattle.proxy_config.specs.Setup.{Setup, Location, is_reached_by, is_same, locations_of, next_hop, usual_longest}
 
 -- the URI that a text spells, if it does
 abbrev pub uri_if : Result Uri UriFault → Option Uri
 uri_if (Ok uri) = Some uri
 uri_if (Err fault) = None
 
--- a request can be sent there over UDP, its user has not got this target yet, nor as many locations as may be tried
-abbrev pub may_follow : List Location → Location → Bool
-may_follow earlier location =
-    is_by_datagram (next_hop location)
+-- a request can be sent there, its user has not got this target yet, nor as many locations as may be tried
+abbrev pub may_follow : (streams : Bool) → List Location → Location → Bool
+may_follow streams earlier location =
+    is_reached_by streams (next_hop location)
     && not (list_any (is_same location) earlier)
     && nat_lt (length (locations_of location.user earlier)) most_targets
 
-abbrev pub added : List Location → Location → Option (List Location)
-added locations location = if may_follow locations location then Some (locations ++ location ∷ []) else None
+abbrev pub added : (streams : Bool) → List Location → Location → Option (List Location)
+added streams locations location = if may_follow streams locations location then Some (locations ++ location ∷ []) else None
 
 -- what a line makes of its user, its q, its URI and its longest time
 abbrev pub as_read : List ℕ → ℕ → ℕ → Uri → Location
 as_read user q longest uri = record { user = user; q = q; uri = uri; hop = None; longest = longest }
 
+-- no line makes one that is reached over TCP
 abbrev pub with_location : List Location → List ℕ → ℕ → List ℕ → ℕ → Option (List Location)
 with_location locations user q text longest =
-    option_and_then (λ uri. added locations (as_read user q longest uri)) (uri_if (read_uri text))
+    option_and_then (λ uri. added false locations (as_read user q longest uri)) (uri_if (read_uri text))
 
 -- what a line adds
 abbrev pub with_line : Setup → Line → Option Setup
@@ -59,4 +60,7 @@ no_setup = record {
   stamps = false;
   reasons = false;
   streams = false;
+  ways = [];
+  realm = None;
+  token = None;
 }

@@ -1,6 +1,7 @@
 -- What a proxy is set up with: the address it receives at, the number of this run, the domain it answers for, the rules
 -- of its forks, and where the users of the domain may be reached (RFC 3261 sections 16.5 and 16.6).
 use Rattle.std.specs.Prelude.{◌≡◌, ◌<◌, ◌≤◌, ℕ, ◌&&◌, ◌==◌, Bool, true, false, bytes_eq, List, [], ◌∷◌, ◌++◌, map, filter, length, Option, None, Some, slice_get, if◌then◌else◌}
+use Rattle.std.specs.Fmt.{decimal}
 use Rattle.std.specs.List.{list_any, AllByRecursion}
 use Rattle.fork_model.specs.Table.{Rules, most_targets}
 use Rattle.fork_rank.specs.Field.{most_q}
@@ -11,7 +12,9 @@ use Rattle.sip_uri.specs.Hop.{hop_of}
 use Rattle.sip_uri.specs.Host.{is_host}
 use Rattle.sip_uri.specs.Key.{key_of}
 use Rattle.sip_uri.specs.Uri.{Uri}
+use Rattle.sip_via.specs.Address.{address_text}
 use Rattle.sip_via.specs.declared.own.Own.{Own}
+use Rattle.proxy_config.specs.declared.dialog_token.DialogToken.{DialogToken}
 
 -- how long a branch rings at most where nothing says less, in milliseconds (timer C, section 16.6 step 11)
 abbrev pub usual_longest : ℕ
@@ -24,6 +27,11 @@ pub record Location : Type 0 where
   pub uri : Uri
   pub hop : Option Hop
   pub longest : ℕ
+
+-- the hop by which requests reach a target outside of the domain: a URI with this key
+pub record Way : Type 0 where
+  pub key : List ℕ
+  pub hop : Hop
 
 pub record Setup : Type 0 where
   pub own : Own
@@ -45,6 +53,12 @@ pub record Setup : Type 0 where
   pub reasons : Bool
   -- whether the proxy has connections, so that requests may go over TCP (section 18)
   pub streams : Bool
+  -- by which hops targets outside of the domain are reached (section 16.6 step 7); of several for one target the last counts
+  pub ways : List Way
+  -- the realm of the proxy, whose credentials do not go on with a request (section 22.3)
+  pub realm : Option (List ℕ)
+  -- what the token in the Record-Route line of a request that opens a dialog is made with
+  pub token : Option DialogToken
 
 -- by which hop a request goes to a location (section 16.6 step 7): by its own, or else by that of its URI
 abbrev pub hop_or_that_of : Option Hop → Uri → Option Hop
@@ -54,15 +68,41 @@ hop_or_that_of (Some hop) uri = Some hop
 abbrev pub next_hop : Location → Option Hop
 next_hop location = hop_or_that_of location.hop location.uri
 
--- over UDP
-abbrev pub is_datagram : Transport → Bool
-is_datagram Udp = true
-is_datagram Tcp = false
-is_datagram (Back sent_by) = false
+-- over TCP only where the proxy has connections (section 18)
+abbrev pub is_reached : (streams : Bool) → Transport → Bool
+is_reached streams Udp = true
+is_reached streams Tcp = streams
+is_reached streams (Back sent_by) = streams
 
-abbrev pub is_by_datagram : Option Hop → Bool
-is_by_datagram None = false
-is_by_datagram (Some hop) = is_datagram hop.transport
+abbrev pub is_reached_by : (streams : Bool) → Option Hop → Bool
+is_reached_by streams None = false
+is_reached_by streams (Some hop) = is_reached streams hop.transport
+
+-- ---- what decides whether two targets are the same (section 16.5)
+
+abbrev pub is_same_transport : Transport → Transport → Bool
+is_same_transport Udp Udp = true
+is_same_transport Tcp Tcp = true
+is_same_transport (Back port) (Back other) = port == other
+is_same_transport _ _ = false
+
+abbrev pub is_same_hop : Hop → Option Hop → Bool
+is_same_hop hop None = false
+is_same_hop hop (Some other) = bytes_eq hop.addr other.addr && hop.port == other.port && is_same_transport hop.transport other.transport
+
+-- a line feed, which no URI has, and the address and the port
+abbrev pub hop_key : Hop → List ℕ
+hop_key hop = 10 ∷ (address_text hop.addr ++ 58 ∷ decimal hop.port)
+
+-- the key of the URI, and the hop behind it where that is another one than the URI's own
+abbrev pub target_key : Uri → Option Hop → List ℕ
+target_key uri None = key_of uri
+target_key uri (Some hop) = if is_same_hop hop (hop_of uri) then key_of uri else key_of uri ++ hop_key hop
+
+abbrev pub location_key : Location → List ℕ
+location_key location = target_key location.uri location.hop
+
+-- ---- locations
 
 -- a location that has the usual longest time has this one
 abbrev pub with_longest : ℕ → Location → Location
@@ -81,42 +121,45 @@ locations_of user locations = filter (is_of_user user) locations
 
 -- the other one is of the same user, and the same target
 abbrev pub is_same : Location → Location → Bool
-is_same location other = is_of_user location.user other && bytes_eq (key_of other.uri) (key_of location.uri)
+is_same location other = is_of_user location.user other && bytes_eq (location_key other) (location_key location)
 
--- what a location has to be, behind those that stand before it: a request can be sent there over UDP, its user has not got this
--- target yet, nor as many locations as may be tried
-pub record MayFollow (earlier : List Location) (location : Location) : Type 0 where
-  pub hop : is_by_datagram (next_hop location) ≡ true
+-- what a location has to be, behind those that stand before it: a request can be sent there, its user has not got this target
+-- yet, nor as many locations as may be tried
+pub record MayFollow (streams : Bool) (earlier : List Location) (location : Location) : Type 0 where
+  pub hop : is_reached_by streams (next_hop location) ≡ true
   pub q : location.q ≤ most_q
   pub apart : list_any (is_same location) earlier ≡ false
   pub few : length (locations_of location.user earlier) < most_targets
 
-abbrev pub KeepsFrom : List Location → List Location → Type 0
-KeepsFrom earlier [] = Unit {0}
-KeepsFrom earlier (location ∷ locations) = MayFollow earlier location × KeepsFrom (earlier ++ location ∷ []) locations
+abbrev pub KeepsFrom : (streams : Bool) → List Location → List Location → Type 0
+KeepsFrom streams earlier [] = Unit {0}
+KeepsFrom streams earlier (location ∷ locations) = MayFollow streams earlier location × KeepsFrom streams (earlier ++ location ∷ []) locations
 
--- each location may follow those before it
+-- each location may follow those before it, where the proxy has connections or not
+abbrev pub KeepsRulesWith : (streams : Bool) → List Location → Type 0
+KeepsRulesWith streams locations = KeepsFrom streams [] locations
+
+-- and where it has none
 abbrev pub KeepsRules : List Location → Type 0
-KeepsRules locations = KeepsFrom [] locations
+KeepsRules locations = KeepsRulesWith false locations
 
 -- what holds of each setup
-pub record IsKept (own : Own) (domain : List ℕ) (locations : List Location) : Type 0 where
+pub record IsKeptWith (streams : Bool) (own : Own) (domain : List ℕ) (locations : List Location) : Type 0 where
   pub port : 1 ≤ own.port
   pub domain_is : is_host domain ≡ true
-  pub locations_keep : KeepsRules locations
+  pub locations_keep : KeepsRulesWith streams locations
 
--- what decides whether two targets are the same (section 16.5)
-abbrev pub location_key : Location → List ℕ
-location_key location = key_of location.uri
+abbrev pub IsKept : Own → List ℕ → List Location → Type 0
+IsKept own domain locations = IsKeptWith false own domain locations
 
--- the targets of a request to a user: no more than may be tried, none twice, each with an address to send to over UDP, at a
--- q of at most one
-pub record AreTargets (locations : List Location) : Type 0 where
+-- the targets of a request to a user: no more than may be tried, none twice, each with an address to send to, at a q of at most one
+pub record AreTargets (streams : Bool) (locations : List Location) : Type 0 where
   pub few : length locations ≤ most_targets
   pub apart : (m n : ℕ) (key : List ℕ) → m < n → slice_get (map location_key locations) m ≡ Some key → slice_get (map location_key locations) n ≡ Some key → ⊥
-  pub hops : AllByRecursion (λ location. is_by_datagram (next_hop location) ≡ true) locations
+  pub hops : AllByRecursion (λ location. is_reached_by streams (next_hop location) ≡ true) locations
   pub weights : AllByRecursion (λ location. location.q ≤ most_q) locations
 
 -- so are the locations of each user, where each may follow those before it
 abbrev pub LocationsAreTargets : Type 0
-LocationsAreTargets = (user : List ℕ) (locations : List Location) → KeepsRules locations → AreTargets (locations_of user locations)
+LocationsAreTargets =
+    (streams : Bool) (user : List ℕ) (locations : List Location) → KeepsRulesWith streams locations → AreTargets streams (locations_of user locations)

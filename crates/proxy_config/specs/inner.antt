@@ -1,2 +1,4 @@
+pub mod OwnKey
 pub mod Reading
 pub mod UserPlaces
+pub mod WaysInside

@@ -1,16 +1,17 @@
 //! Locations, with the places of each user's.
-ghost use Rattle.std.specs.Prelude.{◌≡◌, ◌&&◌, [], map, not, nat_lt, IfOk, Some, None, if◌then◌else◌, slice_get};
+ghost use Rattle.std.specs.Prelude.{◌≡◌, ◌&&◌, [], map, not, nat_lt, IfOk, OnOk, Some, None, if◌then◌else◌, slice_get};
 ghost use Rattle.std.specs.List.{list_any};
 ghost use Rattle.fork_model.specs.Table.{most_targets};
-ghost use Rattle.proxy_config.specs.Setup.{is_by_datagram, locations_of, with_longest};
+ghost use Rattle.proxy_config.specs.Moment.{with_next};
+ghost use Rattle.proxy_config.specs.Setup.{KeepsRulesWith, locations_of, with_longest};
 ghost use Rattle.proxy_config.specs.Parts.{added, may_follow};
 ghost use Rattle.proxy_config.specs.inner.UserPlaces.{has_key};
 
+use crate::hops::is_reached_by;
 use crate::location::Location;
 use crate::user_locations::UserLocations;
 use crate::user_places::UserPlaces;
 use fork_rank::MOST_TARGETS;
-use sip_uri::{Hop, Transport};
 use std::alloc::{AllocError, Allocator};
 use std::marker::Model;
 
@@ -39,7 +40,7 @@ fn has_key_at<A: Allocator + Clone>(locations: &[Location<A>], place: usize, key
 {
     match locations.get(place) {
         None => false,
-        Some(location) => location.uri().key() == key,
+        Some(location) => location.key() == key,
     }
 }
 
@@ -50,19 +51,6 @@ fn has_key<A: Allocator + Clone>(locations: &[Location<A>], places: &[usize], ke
     places
         .iter()
         .any(|&place| has_key_at(locations, place, key))
-}
-
-/// Whether there is a hop, and it is over UDP.
-fn is_by_datagram(hop: Option<Hop>) -> bool
-    ensures { result ≡ is_by_datagram hop }
-{
-    match hop {
-        None => false,
-        Some(hop) => match hop.transport {
-            Transport::Udp => true,
-            Transport::Tcp | Transport::Back(_) => false,
-        },
-    }
 }
 
 /// Whether a user with so many targets may get one more: the user has not got it yet, nor as many as may be tried.
@@ -106,24 +94,32 @@ impl<A: Allocator + Clone> ListedLocations<A> {
         })
     }
 
-    /// Whether a location may stand behind these: a request can be sent there over UDP, its user has not got this target yet, nor as
-    /// many locations as may be tried.
-    fn may_follow(&self, location: &Location<A>) -> bool
-        ensures { result ≡ may_follow self.now location.now }
+    /// Whether a location may stand behind these: a request can be sent there, its user has not got this target yet, nor as many
+    /// locations as may be tried.
+    fn may_follow(&self, streams: bool, location: &Location<A>) -> bool
+        ensures { result ≡ may_follow streams self.now location.now }
     {
-        if !is_by_datagram(location.next_hop()) {
+        if !is_reached_by(streams, location.next_hop()) {
             return false;
         }
         let places = self.places.of(location.user());
-        let is_there = has_key(self.locations.as_slice(), places, location.uri().key());
+        let is_there = has_key(self.locations.as_slice(), places, location.key());
         may_get(is_there, places.len())
     }
 
     /// Adds a location, and answers whether it may stand here.
-    pub(crate) fn push(&mut self, alloc: &A, location: Location<A>) -> Result<bool, AllocError>
-        ensures { IfOk result (λ done. (if done then Some self.new else None) ≡ added self.old location) }
+    pub(crate) fn push(
+        &mut self,
+        alloc: &A,
+        streams: bool,
+        location: Location<A>,
+    ) -> Result<bool, AllocError>
+        ensures added { IfOk result (λ done. (if done then Some self.new else None) ≡ added streams self.old location) }
+        ensures next { OnOk result (self.new ≡ with_next streams self.old location) }
+        ensures keeps { OnOk result (KeepsRulesWith streams self.old → KeepsRulesWith streams self.new) }
     {
-        if !self.may_follow(&location) {
+        let _weight = location.q();
+        if !self.may_follow(streams, &location) {
             return Ok(false);
         }
         self.locations.reserve(1)?;

@@ -1,10 +1,13 @@
 //! Where a user may be reached.
-ghost use Rattle.std.specs.Prelude.{◌≡◌, ◌≤◌};
+ghost use Rattle.std.specs.Prelude.{◌≡◌, ◌≤◌, IfOk};
 ghost use Rattle.fork_rank.specs.Field.{most_q};
-ghost use Rattle.proxy_config.specs.Setup.{is_of_user, next_hop, with_longest};
+ghost use Rattle.proxy_config.specs.Moment.{as_requested, bound_location};
+ghost use Rattle.proxy_config.specs.Setup.{hop_or_that_of, is_of_user, location_key, next_hop, with_longest};
 
+use crate::bound_contact::BoundContact;
+use crate::target_key::{own_key, own_key_if_any};
 use sip_uri::{Hop, SipUri};
-use std::alloc::{Allocator, Global};
+use std::alloc::{AllocError, Allocator, Global};
 use std::marker::Model;
 
 /// How long a branch rings at most where nothing says less, in milliseconds: timer C, which has to run for more than 3
@@ -18,7 +21,10 @@ pub struct Location<A: Allocator = Global> {
     q: u16,
     uri: SipUri<A>,
     hop: Option<Hop>,
+    /// The hop that requests to it go by: its own, or else that of its URI.
     next_hop: Option<Hop>,
+    /// Its key, where that is not the one of its URI.
+    own_key: Option<Vec<u8, A>>,
     longest: u64,
 }
 
@@ -26,6 +32,7 @@ impl<A: Allocator> Model for Location<A> {
     ghost use Rattle.std.specs.Prelude.{◌≡◌, ◌≤◌};
     ghost use Rattle.fork_rank.specs.Field.{most_q};
     ghost use Rattle.proxy_config.specs.Setup as spec;
+    ghost use Rattle.proxy_config.specs.inner.OwnKey.{key_or};
 
     ghost Value = { spec.Location };
 
@@ -34,7 +41,18 @@ impl<A: Allocator> Model for Location<A> {
     ghost invariant = { λ l. record {
       q : l.q ≤ most_q;
       next_hop : l.next_hop ≡ spec.hop_or_that_of l.hop l.uri;
+      key : key_or l.own_key l.uri ≡ spec.target_key l.uri l.hop;
     } };
+}
+
+/// The hop that a request to this URI goes by: this one, if there is one, or else that of the URI (RFC 3261 section 16.6 step 7).
+fn hop_or_that_of<A: Allocator + Clone>(hop: Option<Hop>, uri: &SipUri<A>) -> Option<Hop>
+    ensures { result ≡ hop_or_that_of hop uri.now }
+{
+    match hop {
+        Some(hop) => Some(hop),
+        None => uri.next_hop(),
+    }
 }
 
 impl<A: Allocator> Location<A> {
@@ -98,6 +116,7 @@ impl<A: Allocator + Clone> Location<A> {
             uri,
             hop: None,
             next_hop,
+            own_key: None,
             longest,
         }
     }
@@ -108,5 +127,58 @@ impl<A: Allocator + Clone> Location<A> {
         ensures { result ≡ next_hop self.now }
     {
         self.next_hop
+    }
+
+    /// The bytes that tell the location from the other targets of a request (RFC 3261 section 16.5): the key of its URI, and,
+    /// where its hop is another one than the URI's own, a line feed with the address and the port behind it.
+    pub fn key(&self) -> &[u8]
+        ensures { result.now ≡ location_key self.now }
+    {
+        match &self.own_key {
+            None => self.uri.key(),
+            Some(key) => key.as_slice(),
+        }
+    }
+
+    /// Where a user may be reached by a contact that is bound to the user, whose URI that is, for so many milliseconds at most.
+    pub(crate) fn bound(
+        alloc: A,
+        user: &[u8],
+        longest: u64,
+        contact: &BoundContact<'_>,
+        uri: SipUri<A>,
+    ) -> Result<Location<A>, AllocError>
+        ensures { IfOk result (λ location. location ≡ bound_location user.now longest contact.now uri) }
+    {
+        let own_key = own_key(alloc.clone()?, &uri, contact.hop())?;
+        let user = Vec::from_slice(alloc, user)?;
+        Ok(Location {
+            user,
+            q: contact.q(),
+            uri,
+            hop: Some(contact.hop()),
+            next_hop: Some(contact.hop()),
+            own_key,
+            longest,
+        })
+    }
+
+    /// The same location, with its URI as that stands in a request (RFC 3261 section 19.1.1).
+    pub(crate) fn requested(&self, alloc: &A) -> Result<Location<A>, AllocError>
+        ensures { IfOk result (λ copy. copy ≡ as_requested self.now) }
+    {
+        let user = Vec::from_slice(alloc.clone()?, &self.user)?;
+        let uri = self.uri.requested(alloc.clone()?)?;
+        let next_hop = hop_or_that_of(self.hop, &uri);
+        let own_key = own_key_if_any(alloc.clone()?, &uri, self.hop)?;
+        Ok(Location {
+            user,
+            q: self.q,
+            uri,
+            hop: self.hop,
+            next_hop,
+            own_key,
+            longest: self.longest,
+        })
     }
 }

@@ -46,7 +46,7 @@ pub struct SetupParts<A: Allocator = Global> {
 }
 
 impl<A: Allocator> Model for SetupParts<A> {
-    ghost use Rattle.std.specs.Prelude.{false};
+    ghost use Rattle.std.specs.Prelude.{[], None, false};
     ghost use Rattle.proxy_config.specs.Setup as spec;
 
     ghost Value = { spec.Setup };
@@ -64,6 +64,9 @@ impl<A: Allocator> Model for SetupParts<A> {
       stamps = false;
       reasons = false;
       streams = false;
+      ways = [];
+      realm = None;
+      token = None;
     } };
 }
 
@@ -152,7 +155,7 @@ impl<A: Allocator + Clone> SetupParts<A> {
         };
         let user = user.to_vec(alloc.clone()?)?;
         self.locations
-            .push(alloc, Location::new(user, q, uri, longest))
+            .push(alloc, false, Location::new(user, q, uri, longest))
     }
 
     /// Adds what a line says, and answers whether that may stand here. In which order lines come is looked at elsewhere.
@@ -195,6 +198,9 @@ impl<A: Allocator + Clone> SetupParts<A> {
             stamps: false,
             reasons: false,
             streams: false,
+            ways: None,
+            realm: None,
+            token: None,
         }
     }
 }

@@ -1,23 +1,32 @@
 //! What a proxy is set up with.
-ghost use Rattle.std.specs.Prelude.{◌≡◌, ◌≤◌, IfOk, IfErr, Ok, IsTrue, true};
+ghost use Rattle.std.specs.Prelude.{◌≡◌, ◌≤◌, IfOk, IfErr, Ok, Some, IsTrue, true};
+ghost use Rattle.std.specs.Option.{option_copied, option_map};
 ghost use Rattle.sip_uri.specs.Host.{is_host};
 ghost use Rattle.proxy_config.specs.Configuration.{IsConfiguration};
 ghost use Rattle.proxy_config.specs.ReadView.{GivesSetup, IsFaultOf};
 ghost use Rattle.proxy_config.specs.Setup as spec;
-ghost use Rattle.proxy_config.specs.Setup.{KeepsRules, locations_of, with_ring};
+ghost use Rattle.proxy_config.specs.Moment.{at_moment, with_ways};
+ghost use Rattle.proxy_config.specs.Setup.{KeepsRulesWith, locations_of, with_ring};
+ghost use Rattle.proxy_config.specs.Ways.{way_to};
+ghost use Rattle.proxy_config.specs.inner.WaysInside.{ways_in};
 
+use crate::bound_contact::BoundContact;
+use crate::dialog_token::DialogToken;
 use crate::draft::read_all;
 use crate::fault::SetupFault;
 use crate::listed::ListedLocations;
 use crate::location::Location;
+use crate::moment::{locations_of_user, with_contacts};
 use crate::user_locations::UserLocations;
+use crate::way::{Way, last_way, ways_to};
 use fork_rank::Rules;
+use sip_uri::{Hop, SipUri};
 use sip_via::Own;
-use std::alloc::{Allocator, Global};
+use std::alloc::{AllocError, Allocator, Global};
 use std::marker::Model;
 
 /// What a proxy is set up with. `read` makes one, and `with_own_port`, `for_a_service`, `ringing`, `recording`, `stamping`,
-/// `giving_reasons` and `with_streams` others of it.
+/// `giving_reasons`, `with_streams`, `of_realm`, `with_token`, `at_moment` and `with_ways` others of it.
 #[derive(Drop)]
 pub struct Setup<A: Allocator = Global> {
     pub(crate) own: Own,
@@ -32,11 +41,16 @@ pub struct Setup<A: Allocator = Global> {
     pub(crate) stamps: bool,
     pub(crate) reasons: bool,
     pub(crate) streams: bool,
+    pub(crate) ways: Option<Vec<Way<A>, A>>,
+    pub(crate) realm: Option<Vec<u8, A>>,
+    pub(crate) token: Option<DialogToken>,
 }
 
 impl<A: Allocator> Model for Setup<A> {
+    ghost use Rattle.std.specs.Option.{option_map};
     ghost use Rattle.proxy_config.specs.Setup as spec;
-    ghost use Rattle.proxy_config.specs.Setup.{IsKept};
+    ghost use Rattle.proxy_config.specs.Setup.{IsKeptWith};
+    ghost use Rattle.proxy_config.specs.inner.WaysInside.{ways_in};
 
     ghost Value = { spec.Setup };
 
@@ -53,9 +67,12 @@ impl<A: Allocator> Model for Setup<A> {
       stamps = s.stamps;
       reasons = s.reasons;
       streams = s.streams;
+      ways = ways_in s.ways;
+      realm = option_map (λ r. r.items) s.realm;
+      token = s.token;
     } };
 
-    ghost invariant = { λ s. IsKept s.own s.domain.items s.locations };
+    ghost invariant = { λ s. IsKeptWith s.streams s.own s.domain.items s.locations };
 }
 
 impl<A: Allocator> Setup<A> {
@@ -92,8 +109,8 @@ impl<A: Allocator> Setup<A> {
     /// Where the users of the domain may be reached, in the order of the text.
     pub fn locations(&self) -> &[Location<A>]
         ensures value { result.now ≡ self.now.locations }
-        // A request can be sent to each location over UDP; no user has one target twice, or more than may be tried.
-        ensures rules { KeepsRules self.now.locations }
+        // A request can be sent to each location; no user has one target twice, or more than may be tried.
+        ensures rules { KeepsRulesWith self.now.streams self.now.locations }
     {
         self.locations.as_slice()
     }
@@ -210,6 +227,39 @@ impl<A: Allocator> Setup<A> {
         self.streams = true;
         self
     }
+
+    /// The realm of the proxy, if it has one: credentials for it do not go on with a request (RFC 3261 section 22.3).
+    pub fn realm(&self) -> Option<&[u8]>
+        ensures { option_copied result ≡ self.now.realm }
+    {
+        match &self.realm {
+            None => None,
+            Some(realm) => Some(realm.as_slice()),
+        }
+    }
+
+    /// The same setup, but of a proxy with this realm: credentials for it do not go on with a request (RFC 3261 section 22.3).
+    pub fn of_realm(mut self, realm: Vec<u8, A>) -> Setup<A>
+        ensures { result ≡ record self { realm = Some realm.items } }
+    {
+        self.realm = Some(realm);
+        self
+    }
+
+    /// What the token in the Record-Route line of a request that opens a dialog is made with, if there is one in it.
+    pub fn token(&self) -> Option<DialogToken>
+        ensures { result ≡ self.now.token }
+    {
+        self.token
+    }
+
+    /// The same setup, but with a token in the Record-Route line of each request that opens a dialog.
+    pub fn with_token(mut self, token: DialogToken) -> Setup<A>
+        ensures { result ≡ record self { token = Some token } }
+    {
+        self.token = Some(token);
+        self
+    }
 }
 
 impl<A: Allocator + Clone> Setup<A> {
@@ -221,12 +271,93 @@ impl<A: Allocator + Clone> Setup<A> {
         self.locations.of(user)
     }
 
+    /// The hop by which a URI outside of the domain is reached where no Route value leads on, if that is another one than its own
+    /// (RFC 3261 section 16.6 step 7).
+    pub fn way_to(&self, uri: &SipUri<A>) -> Option<Hop>
+        ensures { result ≡ way_to self.now.ways uri.now }
+    {
+        match &self.ways {
+            None => None,
+            Some(ways) => last_way(ways, uri.key()),
+        }
+    }
+
+    /// The same setup, but with these locations and ways alone.
+    fn with_places(
+        &self,
+        alloc: A,
+        locations: ListedLocations<A>,
+        ways: Option<Vec<Way<A>, A>>,
+    ) -> Result<Setup<A>, AllocError>
+        requires { KeepsRulesWith self.now.streams locations }
+        ensures { IfOk result (λ setup. setup ≡ record self.now { locations = locations; ways = ways_in ways }) }
+    {
+        let domain = Vec::from_slice(alloc.clone()?, &self.domain)?;
+        let realm = match &self.realm {
+            None => None,
+            Some(realm) => Some(Vec::from_slice(alloc, realm)?),
+        };
+        Ok(Setup {
+            own: self.own,
+            instance: self.instance,
+            domain,
+            rules: self.rules,
+            locations,
+            by_port: self.by_port,
+            for_service: self.for_service,
+            ring: self.ring,
+            records: self.records,
+            stamps: self.stamps,
+            reasons: self.reasons,
+            streams: self.streams,
+            ways,
+            realm,
+            token: self.token,
+        })
+    }
+
+    /// The setup for a request to a user of the domain, to whom these contacts are bound (RFC 3261 sections 10 and 16.5): its
+    /// locations are those of the user, with their URIs as they stand in a request, and behind them the contacts, each whose URI
+    /// can be read, that a request can be sent to, and that is not among those before it, as many as may be tried. Requests to a
+    /// contact go by its hop, and it rings as long as any target that is no location of the text.
+    ///
+    /// # Errors
+    ///
+    /// Only where the allocator refuses.
+    pub fn at_moment(
+        &self,
+        alloc: A,
+        user: &[u8],
+        contacts: &[BoundContact<'_>],
+    ) -> Result<Setup<A>, AllocError>
+        ensures { IfOk result (λ setup. setup ≡ at_moment user.now contacts.now self.now) }
+    {
+        let own = locations_of_user(&alloc, self.streams, &self.locations, user)?;
+        let places = with_contacts(&alloc, self.streams, user, self.ring, own, contacts)?;
+        self.with_places(alloc, places, None)
+    }
+
+    /// The setup for a request to a URI that is not of the domain, by a sender or to a user of the domain to whom these contacts are
+    /// bound: where the URI has the key of one of them, and no Route value leads on, the request goes by the hop of that contact, of
+    /// several by that of the last (RFC 3261 section 16.6 step 7). So it reaches a contact whose address leads nowhere from here.
+    ///
+    /// # Errors
+    ///
+    /// Only where the allocator refuses.
+    pub fn with_ways(&self, alloc: A, contacts: &[BoundContact<'_>]) -> Result<Setup<A>, AllocError>
+        ensures { IfOk result (λ setup. setup ≡ with_ways contacts.now self.now) }
+    {
+        let ways = ways_to(&alloc, contacts)?;
+        let none = ListedLocations::new(&alloc)?;
+        self.with_places(alloc, none, Some(ways))
+    }
+
     /// The setup that a text spells. Its lines, each ended by LF: `own ADDRESS PORT`; `instance NUMBER`; `domain HOST`;
     /// `prefer LIST` and `depth STEPS`, each of which may be left out, and then the usual rule holds; and any number of
     /// `location USER Q URI`. An own address 0.0.0.0 is malformed, for no answer could come back to it. So is a location that
     /// no request can be sent to over UDP, and one whose user has the same target already, or as many locations as may be tried.
     /// The own address counts as the domain with any port, and its Via values are of UDP. Each branch rings for 181,000 ms at
-    /// most, no Record-Route, Timestamp or Reason line is added, and nothing goes over TCP.
+    /// most, no Record-Route, Timestamp or Reason line is added, nothing goes over TCP, and it has no ways and no realm.
     ///
     /// # Errors
     ///

@@ -6,10 +6,10 @@ use Rattle.fork_rank.specs.Field.{most_q}
 use Rattle.sip_uri.specs.Host.{is_host}
 use Rattle.sip_uri.specs.Reading.{read_uri}
 use Rattle.sip_uri.specs.Uri.{Uri}
-use Rattle.proxy_config.proofs.laws.Lines.{may_is}
+use Rattle.proxy_config.proofs.laws.Lines.{keeps_more, may_is}
 use Rattle.proxy_config.specs.Line as setup
 use Rattle.proxy_config.specs.Parts as parts
-use Rattle.proxy_config.specs.Setup.{IsKept, KeepsFrom, KeepsRules, Location, MayFollow, Setup}
+use Rattle.proxy_config.specs.Setup.{IsKept, KeepsRules, Location, Setup}
 use Rattle.service_config.specs.Configuration.{Draft, no_draft, of_kind, with_draft}
 use Rattle.service_config.specs.Settings.{Gateway, Settings, in_settings, longest_of, with_gateway, with_line}
 use Rattle.service_config.specs.declared.kind.LineKind.{LineKind}
@@ -56,21 +56,14 @@ all_same s = record { port = refl; domain = refl; locations = λ kept. kept }
 
 -- ---- locations
 
-keeps_more : (earlier locations : List Location) (location : Location) → KeepsFrom earlier locations → MayFollow (earlier ++ locations) location → KeepsFrom earlier (locations ++ location ∷ [])
-keeps_more earlier [] location kept may = (subst (λ (ls : List Location). MayFollow ls location) (append-nil earlier) may, tt)
-keeps_more earlier (l ∷ locations) location kept may = (
-  kept.0,
-  keeps_more (earlier ++ l ∷ []) locations location kept.1 (subst (λ (ls : List Location). MayFollow ls location) (sym (append_assoc earlier (l ∷ []) locations)) may),
-)
-
 location_keeps : (locations : List Location) (user : List ℕ) (q : ℕ) (text : List ℕ) (longest : ℕ) (more : List Location) → q ≤ most_q
     → parts.with_location locations user q text longest ≡ Some more → KeepsRules locations → KeepsRules more
 location_keeps locations user q text longest more within e kept =
-    found_then (λ uri. parts.added locations (parts.as_read user q longest uri)) (parts.uri_if (read_uri text)) more (KeepsRules more)
+    found_then (λ uri. parts.added false locations (parts.as_read user q longest uri)) (parts.uri_if (read_uri text)) more (KeepsRules more)
     (λ uri at is.
     let location : Location = parts.as_read user q longest uri in
-    let g = cond_some (parts.may_follow locations location) (locations ++ location ∷ []) more is in
-    subst (λ (ls : List Location). KeepsRules ls) g.1 (keeps_more [] locations location kept (may_is locations location within g.0)))
+    let g = cond_some (parts.may_follow false locations location) (locations ++ location ∷ []) more is in
+    subst (λ (ls : List Location). KeepsRules ls) g.1 (keeps_more false [] locations location kept (may_is false locations location within g.0)))
     e
 
 -- ---- each line
