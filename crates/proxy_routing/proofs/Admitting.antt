@@ -18,9 +18,10 @@ use Rattle.sip_via.specs.ViaParts.{is_via}
 use Rattle.sip_route.specs.declared.hops.MaxForwards.TheVariants.{Unsaid, Said, Wrong}
 use Rattle.sip_route.specs.Hops.{IsHops, hops_of}
 use Rattle.proxy_config.specs.Setup.{Setup}
+use Rattle.proxy_routing.specs.OwnCredentials.{IsWithoutOwnCredentials}
 use Rattle.proxy_routing.specs.OwnRoutes.{without_own_routes}
 use Rattle.sip_route.specs.RouteValues.{is_route, route_values}
-use Rattle.proxy_routing.specs.Admission.{are_hops, has_cookie, has_via, is_uri_or_other}
+use Rattle.proxy_routing.specs.Admission.{IsPrepared, are_hops, has_cookie, has_via, is_uri_or_other}
 use Rattle.proxy_routing.specs.inner.Admission.{is_formed}
 
 pub ok_refused : {Y : Type 0} (r : Result Y ViaFault) → IsOk r → refusal r ≡ BadVia → ⊥
@@ -87,20 +88,29 @@ passed Wrong e f = absurd cc
 pub may_pass : (m : MessageText) → is_well_formed m ≡ true → is_at_its_end m ≡ false → MayPass (hops_of m)
 may_pass m e f = passed (hops_of m) (and_parts (has_via m) (are_hops (hops_of m)) (has_hops m e)).1 f
 
--- marking and stripping leave the start line and the first Max-Forwards value
-pub same_start : (m n r : MessageText) (setup : Setup) → r ≡ without_own_routes setup n → (without_own_routes setup n).start ≡ n.start → n.start ≡ m.start → r.start ≡ m.start
-same_start m n r setup e s t = ap (λ (x : MessageText). x.start) e ∙ s ∙ t
+-- the request as it is prepared, by its parts
+pub prepared_so : (setup : Setup) (m n r last : MessageText) (source : Hop) (realm : Option (List ℕ)) → marked m source ≡ Ok n → r ≡ without_own_routes setup n → realm ≡ setup.realm
+    → IsWithoutOwnCredentials realm r last → IsPrepared setup m source last
+prepared_so setup m n r last source realm e f g is =
+    let P : MessageText → Type 0 = λ x. IsWithoutOwnCredentials realm x last in
+    let Q : Option (List ℕ) → Type 0 = λ x. IsWithoutOwnCredentials x (without_own_routes setup n) last in
+    (n, e, subst Q g (subst P f is))
+
+-- marking, stripping and taking credentials off leave the start line and the first Max-Forwards value
+pub same_start : (m n r last : MessageText) (setup : Setup) → r ≡ without_own_routes setup n → (without_own_routes setup n).start ≡ n.start → n.start ≡ m.start
+    → last.start ≡ r.start → last.start ≡ m.start
+same_start m n r last setup e s t u = u ∙ ap (λ (x : MessageText). x.start) e ∙ s ∙ t
 
 pub not_via : same_name (codes "via") hops_name ≡ false
 unfolding full_name
 not_via = refl
 
-pub still_passes : (m n r : MessageText) (setup : Setup) → IfSome (first_value hops_name m.headers) IsHops
+pub still_passes : (m n r last : MessageText) (setup : Setup) → IfSome (first_value hops_name m.headers) IsHops
     → values_of hops_name n.headers ≡ values_of hops_name m.headers
     → first_value hops_name (without_own_routes setup n).headers ≡ first_value hops_name n.headers → r ≡ without_own_routes setup n
-    → IfSome (first_value hops_name r.headers) IsHops
-still_passes m n r setup h e f g =
+    → first_value hops_name last.headers ≡ first_value hops_name r.headers → IfSome (first_value hops_name last.headers) IsHops
+still_passes m n r last setup h e f g k =
     let P : Option (List ℕ) → Type 0 = λ value. IfSome value IsHops in
-    let same : first_value hops_name r.headers ≡ first_value hops_name m.headers =
-    ap (λ (x : MessageText). first_value hops_name x.headers) g ∙ f ∙ ap first_of e in
+    let same : first_value hops_name last.headers ≡ first_value hops_name m.headers =
+    k ∙ ap (λ (x : MessageText). first_value hops_name x.headers) g ∙ f ∙ ap first_of e in
     subst P (sym same) h

@@ -1,1 +1,3 @@
+pub mod LineValues
+pub mod OwnCredentials
 pub mod OwnRoutes

@@ -21,6 +21,7 @@ use Rattle.sip_route.specs.Loop.{request_uri}
 use Rattle.sip_route.specs.LoopTest.{IsLoop}
 use Rattle.sip_route.specs.RouteValues.{is_route, route_values}
 use Rattle.proxy_config.specs.Setup.{Setup}
+use Rattle.proxy_routing.specs.OwnCredentials.{IsWithoutOwnCredentials}
 use Rattle.proxy_routing.specs.OwnRoutes.{without_own_routes}
 
 -- ---- is it well formed (section 16.3 step 1)
@@ -71,10 +72,13 @@ is_at_its_end m = is_spent (hops_of m)
 abbrev pub asks_extension : MessageText → Bool
 asks_extension m = is_some (first_value (codes "proxy-require") m.headers)
 
--- the request with its source (section 18.2.1), and without the Route values that the proxy takes away (section 16.4)
+-- the request with its source (section 18.2.1), without the Route values that the proxy takes away (section 16.4), and without the
+-- credentials for its realm (section 22.3)
 abbrev pub IsPrepared : Setup → MessageText → Hop → MessageText → Type 0
 IsPrepared setup m source request =
-    (with_source : MessageText) × (marked m source ≡ Ok with_source) × (request ≡ without_own_routes setup with_source)
+    (with_source : MessageText)
+    × (marked m source ≡ Ok with_source)
+    × IsWithoutOwnCredentials setup.realm (without_own_routes setup with_source) request
 
 -- what holds of a request behind the first three steps
 pub record IsRoutable (m : MessageText) : Type 0 where

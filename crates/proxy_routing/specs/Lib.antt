@@ -1,5 +1,6 @@
 pub mod inner
 pub mod Admission
+pub mod OwnCredentials
 pub mod OwnRoutes
 pub mod Refusing
 pub mod Targets

@@ -4,8 +4,6 @@ use Rattle.std.specs.Str.{bytes_eq, str_to_ascii_lowercase}
 use Rattle.fork_model.specs.History.{Target}
 use Rattle.fork_rank.specs.Field.{most_q}
 use Rattle.sip_uri.specs.declared.hop.Hop.{Hop}
-use Rattle.sip_uri.specs.declared.hop.Transport.{Transport}
-use Rattle.sip_uri.specs.declared.hop.Transport.TheVariants.{Udp, Tcp, Back}
 use Rattle.sip_uri.specs.Hop.{hop_of}
 use Rattle.sip_uri.specs.Key.{key_of}
 use Rattle.sip_uri.specs.Uri.{Uri}
@@ -13,15 +11,10 @@ use Rattle.sip_via.specs.Address.{address_text}
 use Rattle.sip_via.specs.declared.own.Own.{Own}
 use Rattle.sip_route.specs.declared.route_values.FirstRoute.{FirstRoute}
 use Rattle.sip_route.specs.declared.route_values.FirstRoute.TheVariants.{Absent, NoHop, To}
-use Rattle.proxy_config.specs.Setup.{Location, Setup, locations_of, next_hop}
+use Rattle.proxy_config.specs.Setup.{Location, Setup, hop_or_that_of, is_reached, location_key, locations_of, next_hop}
+use Rattle.proxy_config.specs.Ways.{way_to}
 
 -- ---- by which hop (section 16.6 steps 6 and 7)
-
--- over TCP only where the proxy has streams
-abbrev pub is_reached : (streams : Bool) → Transport → Bool
-is_reached streams Udp = true
-is_reached streams Tcp = streams
-is_reached streams (Back sent_by) = streams
 
 -- a hop that cannot be reached is none
 abbrev pub reachable : (streams : Bool) → Option Hop → Option Hop
@@ -34,13 +27,14 @@ hop_over streams Absent hop = reachable streams hop
 hop_over streams NoHop hop = None
 hop_over streams (To first) hop = reachable streams (Some first)
 
--- to a URI
-abbrev pub hop_by : (streams : Bool) → FirstRoute → Uri → Option Hop
-hop_by streams route uri = hop_over streams route (hop_of uri)
+-- to a URI outside of the domain: by the way to it, if there is one
+abbrev pub hop_to : Setup → FirstRoute → Uri → Option Hop
+hop_to setup route uri = hop_over setup.streams route (hop_or_that_of (way_to setup.ways uri) uri)
 
--- a target, tried at this q, in thousandths, the hop by which it is reached, if there is one, and how long a branch there rings
--- at most, in milliseconds
+-- a target, with what tells it from others, tried at this q, in thousandths, the hop by which it is reached, if there is one, and how
+-- long a branch there rings at most, in milliseconds
 pub record CandidateTarget : Type 0 where
+  pub key : List ℕ
   pub q : ℕ
   pub uri : Uri
   pub hop : Option Hop
@@ -65,7 +59,7 @@ is_domain setup uri =
     || is_own setup uri
 
 abbrev pub candidate_at : (streams : Bool) → FirstRoute → Location → CandidateTarget
-candidate_at streams route location = record { q = location.q; uri = location.uri; hop = hop_over streams route (next_hop location); longest = location.longest }
+candidate_at streams route location = record { key = location_key location; q = location.q; uri = location.uri; hop = hop_over streams route (next_hop location); longest = location.longest }
 
 abbrev pub candidates_of : (streams : Bool) → FirstRoute → List Location → Option (List ℕ) → List CandidateTarget
 candidates_of streams route locations None = []
@@ -73,7 +67,7 @@ candidates_of streams route locations (Some user) = map (candidate_at streams ro
 
 -- a URI that no location names
 abbrev pub candidate_to : Setup → FirstRoute → Uri → CandidateTarget
-candidate_to setup route uri = record { q = most_q; uri = uri; hop = hop_by setup.streams route uri; longest = setup.ring }
+candidate_to setup route uri = record { key = key_of uri; q = most_q; uri = uri; hop = hop_to setup route uri; longest = setup.ring }
 
 -- where the proxy is responsible for it the locations of the user, else the Request-URI alone
 abbrev pub candidates_by : (inside : Bool) → Setup → FirstRoute → Uri → List CandidateTarget
@@ -85,7 +79,7 @@ abbrev pub candidates : Setup → FirstRoute → Uri → List CandidateTarget
 candidates setup route uri = candidates_by (is_domain setup uri) setup route uri
 
 abbrev pub target_of : CandidateTarget → Target
-target_of candidate = record { key = key_of candidate.uri; q = candidate.q }
+target_of candidate = record { key = candidate.key; q = candidate.q }
 
 abbrev pub targets_of : List CandidateTarget → List Target
 targets_of cs = map target_of cs

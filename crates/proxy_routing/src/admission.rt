@@ -10,7 +10,8 @@ ghost use Rattle.proxy_routing.specs.inner.Unrouted.{IsUnroutableAs};
 
 use crate::checks::{is_formed, is_max_forwards_zero, is_of_another_scheme};
 use crate::fault::RequestRejection;
-use crate::law::taking_own_routes_keeps_the_rest;
+use crate::law::{taking_credentials_keeps_the_rest, taking_own_routes_keeps_the_rest};
+use crate::own_credentials::without_own_credentials;
 use crate::own_routes::without_own_routes;
 use crate::unrouted::Unrouted;
 use proxy_config::Setup;
@@ -70,7 +71,8 @@ fn routable<A: Allocator + Clone>(
     Ok(marked)
 }
 
-/// The request with its source, and without the Route values that the proxy takes away, where it can be routed.
+/// The request with its source, without the Route values that the proxy takes away and the credentials for its realm, where it can
+/// be routed.
 fn prepared<A: Allocator + Clone>(
     alloc: A,
     setup: &Setup<A>,
@@ -85,13 +87,16 @@ fn prepared<A: Allocator + Clone>(
 {
     marking_keeps_the_rest();
     taking_own_routes_keeps_the_rest();
-    let marked = routable(alloc, message, source)?;
-    Ok(without_own_routes(setup, marked))
+    taking_credentials_keeps_the_rest();
+    let marked = routable(alloc.clone()?, message, source)?;
+    let routed = without_own_routes(setup, marked);
+    let request = without_own_credentials(alloc, setup.realm(), routed)?;
+    Ok(request)
 }
 
-/// The request as a proxy that is set up so routes it, which came from `source`: with its source, and without a Route value
-/// at the front that leads to the proxy, or, where the proxy is a service, without any there (RFC 3261 sections 16.3 steps 1
-/// to 4, 16.4 and 18.2.1). It may be forwarded.
+/// The request as a proxy that is set up so routes it, which came from `source`: with its source, without a Route value at the
+/// front that leads to the proxy, or, where the proxy is a service, without any there, and without the credentials for the realm
+/// of the proxy (RFC 3261 sections 16.3 steps 1 to 4, 16.4, 18.2.1 and 22.3). It may be forwarded.
 ///
 /// # Errors
 ///

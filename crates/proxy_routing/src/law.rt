@@ -1,5 +1,5 @@
-//! Laws of taking the proxy's own Route values away.
-ghost use Rattle.std.specs.Prelude.{◌≡◌, ℕ, drop, false, List, map, true};
+//! Laws of taking the proxy's own Route values and the credentials for its realm away.
+ghost use Rattle.std.specs.Prelude.{◌≡◌, ℕ, codes, drop, false, List, map, Option, true};
 ghost use Rattle.sip_lex.specs.Bytes.{trim};
 ghost use Rattle.sip_text.specs.Name.{first_value, same_name, values_of};
 ghost use Rattle.sip_text.specs.Text.{MessageText};
@@ -7,6 +7,7 @@ ghost use Rattle.sip_route.specs.Hops.{hops_name};
 ghost use Rattle.sip_route.specs.Routes.{route_name};
 ghost use Rattle.sip_route.specs.RouteValues.{first_route, route_values};
 ghost use Rattle.proxy_config.specs.Setup.{Setup};
+ghost use Rattle.proxy_routing.specs.OwnCredentials.{IsWithoutOwnCredentials};
 ghost use Rattle.proxy_routing.specs.OwnRoutes.{leads_home, without_own_routes};
 
 use sip_route::stripping_keeps_the_rest;
@@ -31,3 +32,17 @@ pub fn taking_own_routes_keeps_the_rest()
 {
     stripping_keeps_the_rest();
 }
+
+/// What a request is without the credentials for a realm (RFC 3261 section 22.3): it is determined, start line and body are as
+/// before, and so are the values of each header field but Proxy-Authorization, Max-Forwards and Route among them.
+///
+/// A law over the definitions, with nothing to run.
+pub fn taking_credentials_keeps_the_rest()
+    ensures one { (realm : Option (List ℕ)) (m a b : MessageText) → IsWithoutOwnCredentials realm m a → IsWithoutOwnCredentials realm m b → a ≡ b }
+    ensures start { (realm : Option (List ℕ)) (m request : MessageText) → IsWithoutOwnCredentials realm m request → request.start ≡ m.start }
+    ensures body { (realm : Option (List ℕ)) (m request : MessageText) → IsWithoutOwnCredentials realm m request → request.body ≡ m.body }
+    ensures others { (realm : Option (List ℕ)) (m request : MessageText) (name : List ℕ) → IsWithoutOwnCredentials realm m request
+        → same_name (codes "proxy-authorization") name ≡ false → values_of name request.headers ≡ values_of name m.headers }
+    ensures hops { (realm : Option (List ℕ)) (m request : MessageText) → IsWithoutOwnCredentials realm m request
+        → first_value hops_name request.headers ≡ first_value hops_name m.headers }
+{}

@@ -3,13 +3,13 @@ ghost use Rattle.std.specs.Prelude.{◌≡◌, ◌≤◌, ◌++◌, ◌∷◌, [
 ghost use Rattle.std.specs.List.{list_all};
 ghost use Rattle.std.specs.Option.{option_copied};
 ghost use Rattle.fork_rank.specs.Field.{most_q};
-ghost use Rattle.proxy_config.specs.Setup.{locations_of};
-ghost use Rattle.proxy_routing.specs.Targets.{candidate_at, candidate_to, candidates_by, candidates_of, has_hop, hop_by, hop_if_any, hop_over, is_domain, is_own, is_own_port, is_reached, reachable, target_of, targets_of};
+ghost use Rattle.proxy_config.specs.Setup.{hop_or_that_of, locations_of};
+ghost use Rattle.proxy_routing.specs.Targets.{candidate_at, candidate_to, candidates_by, candidates_of, has_hop, hop_if_any, hop_over, hop_to, is_domain, is_own, is_own_port, reachable, target_of, targets_of};
 
 use fork_context::Target;
-use proxy_config::{Location, Setup};
+use proxy_config::{Location, Setup, is_reached};
 use sip_route::FirstRoute;
-use sip_uri::{Hop, SipUri, Transport};
+use sip_uri::{Hop, SipUri};
 use sip_via::{Own, is_address};
 use std::alloc::{AllocError, Allocator};
 use std::marker::Model;
@@ -17,10 +17,11 @@ use std::marker::Model;
 /// The q of a target that no location names.
 const MOST_Q: u16 = 1000;
 
-/// A target, the q at which it is tried, the hop by which it is reached, if there is one, and how long a branch to it rings
-/// at most.
+/// A target, what tells it from others, the q at which it is tried, the hop by which it is reached, if there is one, and how long
+/// a branch to it rings at most.
 #[derive(Drop)]
 pub struct CandidateTarget<'a, A: Allocator> {
+    key: &'a [u8],
     q: u16,
     uri: &'a SipUri<A>,
     hop: Option<Hop>,
@@ -34,7 +35,7 @@ impl<'a, A: Allocator> Model for CandidateTarget<'a, A> {
 
     ghost Value = { spec.CandidateTarget };
 
-    ghost view = { λ c. record { q = c.q; uri = c.uri.now; hop = c.hop; longest = c.longest } };
+    ghost view = { λ c. record { key = c.key.now; q = c.q; uri = c.uri.now; hop = c.hop; longest = c.longest } };
 
     ghost invariant = { λ c. c.q ≤ most_q };
 }
@@ -68,6 +69,7 @@ impl<'a, A: Allocator + Clone> CandidateTarget<'a, A> {
         ensures { result ≡ candidate_at streams route location.now }
     {
         CandidateTarget {
+            key: location.key(),
             q: location.q(),
             uri: location.uri(),
             hop: hop_over(streams, route, location.next_hop()),
@@ -80,9 +82,10 @@ impl<'a, A: Allocator + Clone> CandidateTarget<'a, A> {
         ensures { result ≡ candidate_to setup.now route uri.now }
     {
         CandidateTarget {
+            key: uri.key(),
             q: MOST_Q,
             uri,
-            hop: hop_by(setup.has_streams(), route, uri),
+            hop: hop_to(setup, route, uri),
             longest: setup.ring(),
         }
     }
@@ -91,7 +94,7 @@ impl<'a, A: Allocator + Clone> CandidateTarget<'a, A> {
     fn target(&self, alloc: A) -> Result<Target<A>, AllocError>
         ensures { IfOk result (λ target. target ≡ target_of self.now) }
     {
-        let key = Vec::from_slice(alloc, self.uri.key())?;
+        let key = Vec::from_slice(alloc, self.key)?;
         Ok(Target::new(key, self.q))
     }
 }
@@ -207,16 +210,6 @@ pub fn targets_of<A: Allocator + Clone>(
 
 // ---- by which hop
 
-/// Whether the proxy can send over this transport: over TCP where it has streams.
-fn is_reached(streams: bool, transport: Transport) -> bool
-    ensures { result ≡ is_reached streams transport }
-{
-    match transport {
-        Transport::Udp => true,
-        Transport::Tcp | Transport::Back(_) => streams,
-    }
-}
-
 /// The hop, where the proxy can send over its transport.
 fn reachable(streams: bool, hop: Option<Hop>) -> Option<Hop>
     ensures { result ≡ reachable streams hop }
@@ -239,16 +232,28 @@ fn hop_over(streams: bool, route: FirstRoute, hop: Option<Hop>) -> Option<Hop>
     }
 }
 
-/// The hop that a request to this URI goes by: that of its first Route value, if there is one, else that of the URI; None
-/// where that leads to no hop, or to one over TCP and the proxy has no `streams` (RFC 3261 section 16.6 steps 6 and 7).
-pub fn hop_by<A: Allocator + Clone>(
-    streams: bool,
+/// This hop, or else that of the URI.
+fn hop_or_that_of<A: Allocator + Clone>(hop: Option<Hop>, uri: &SipUri<A>) -> Option<Hop>
+    ensures { result ≡ hop_or_that_of hop uri.now }
+{
+    match hop {
+        None => uri.next_hop(),
+        Some(hop) => Some(hop),
+    }
+}
+
+/// The hop that a request to a URI outside of the domain goes by: that of its first Route value, if there is one, else that of the
+/// way to the URI, if there is one, else that of the URI; None where that leads to no hop, or to one over TCP and the proxy has no
+/// streams (RFC 3261 section 16.6 steps 6 and 7).
+pub fn hop_to<A: Allocator + Clone>(
+    setup: &Setup<A>,
     route: FirstRoute,
     uri: &SipUri<A>,
 ) -> Option<Hop>
-    ensures { result ≡ hop_by streams route uri.now }
+    ensures { result ≡ hop_to setup.now route uri.now }
 {
-    hop_over(streams, route, uri.next_hop())
+    let hop = hop_or_that_of(setup.way_to(uri), uri);
+    hop_over(setup.has_streams(), route, hop)
 }
 
 /// The hop of the first Route value, if there is one that leads to a hop; none over TCP where the proxy has no `streams`.
