@@ -6,7 +6,10 @@ use crate::recipients::{
 };
 use crate::requests::{SOURCE, opening_of, setup_of};
 use call_table::{Pending, Shelf};
-use fork_call::{Call, Cause, Datagram, PendingCall, Setup, Step, TakeFault, Taken, is_openable};
+use fork_call::{
+    Call, Cause, Datagram, PendingCall, Setup, Step, TakeFault, Taken, is_openable, prepare,
+};
+use sip_text::Message;
 use sip_uri::{Hop, Transport};
 use sip_via::own_branch;
 use std::alloc::Global;
@@ -377,6 +380,36 @@ fn is_given_back(alloc: Global) -> bool {
         Some(prepared) => prepared.into_request().is_invite(),
         None => false,
     }
+}
+
+/// Whether what the INVITE is prepared as names the URI that it came for, and opens a call with a setup.
+fn opens_as_prepared(alloc: Global, setup: &Setup<Global>, invite: Message<Global>) -> bool {
+    if !is_openable(&invite) {
+        return false;
+    }
+    let Ok(prepared) = prepare(setup, opening_of(alloc, invite)) else {
+        return false;
+    };
+    let named = prepared.uri().user() == Some(b"bob".as_slice())
+        && prepared.source() == SOURCE
+        && prepared.request().is_invite();
+    match PendingCall::of(setup, alloc, prepared) {
+        Ok(call) => named && call.into_request().is_invite(),
+        Err(_) => false,
+    }
+}
+
+/// The same of the setup with two locations.
+fn opens_in_two_steps(alloc: Global) -> Option<bool> {
+    let setup = setup_of(alloc, SETUP)?;
+    let invite = message_of(alloc, INVITE, (CALLER, NO_VIA), INVITING)?;
+    Some(opens_as_prepared(alloc, &setup, invite))
+}
+
+#[test]
+fn a_call_opens_as_its_request_was_prepared(rt: HostRuntime) {
+    let well = opens_in_two_steps(rt.alloc()) == Some(true);
+    holds(&rt, well, "in two steps");
 }
 
 #[test]

@@ -5,7 +5,7 @@ use crate::requests::{SETUP, request_with, setup_of};
 use fork_call::{admitted_target, read_target};
 use proxy_config::Setup;
 use proxy_routing::{
-    CandidateTarget, asks_extension, candidates, have_hops, hop_by, hop_if_any, targets_of,
+    CandidateTarget, asks_extension, candidates, have_hops, hop_if_any, hop_to, targets_of,
 };
 use sip_route::FirstRoute;
 use sip_text::Message;
@@ -162,26 +162,36 @@ const STREAMED: [(FirstRoute, &[u8], Option<Hop>); 5] = [
 ];
 
 /// Whether a request to the URI of this text goes by that hop.
-fn goes_by(alloc: Global, streams: bool, route: FirstRoute, text: &[u8], hop: Option<Hop>) -> bool {
+fn goes_by(
+    alloc: Global,
+    setup: &Setup<Global>,
+    route: FirstRoute,
+    text: &[u8],
+    hop: Option<Hop>,
+) -> bool {
     match SipUri::read(alloc, text) {
-        Ok(uri) => hop_by(streams, route, &uri) == hop,
+        Ok(uri) => hop_to(setup, route, &uri) == hop,
         Err(_) => false,
     }
 }
 
 #[test]
 fn a_route_value_goes_before_the_uri(rt: HostRuntime) {
+    let Some(setup) = setup_of(rt.alloc(), SETUP) else {
+        return holds(&rt, false, "a setup");
+    };
     for (route, text, hop) in HOPS {
         holds(
             &rt,
-            goes_by(rt.alloc(), false, route, text, hop),
+            goes_by(rt.alloc(), &setup, route, text, hop),
             "the hop that a request goes by",
         );
     }
+    let setup = setup.with_streams();
     for (route, text, hop) in STREAMED {
         holds(
             &rt,
-            goes_by(rt.alloc(), true, route, text, hop),
+            goes_by(rt.alloc(), &setup, route, text, hop),
             "the hop that it goes by where there are streams",
         );
     }

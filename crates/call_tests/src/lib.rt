@@ -21,6 +21,8 @@ mod laws;
 #[cfg(test)]
 mod looking;
 #[cfg(test)]
+mod moments;
+#[cfg(test)]
 mod one_branch;
 #[cfg(test)]
 mod opened_request;

@@ -4,7 +4,7 @@ ghost use Rattle.std.specs.Prelude.{◌≡◌};
 use call_messages::lines::{REQUEST, text_of};
 use call_model::Datagram;
 use call_state::CallState;
-use fork_call::{OpeningRequest, is_openable, open};
+use fork_call::{OpeningRequest, is_openable, open_to, prepare};
 use proxy_config::Setup;
 use proxy_routing::RequestRejection;
 use sip_text::Message;
@@ -94,7 +94,11 @@ pub fn opened(
     if !is_openable(&request) {
         return None;
     }
-    match open(setup, opening_of(alloc, request)) {
+    let prepared = match prepare(setup, opening_of(alloc, request)) {
+        Ok(prepared) => prepared,
+        Err(why) => return Some(Err(why.fault())),
+    };
+    match open_to(setup, prepared) {
         Ok(mut state) => {
             state.set_number(3);
             Some(Ok(state))

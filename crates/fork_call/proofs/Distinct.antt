@@ -4,7 +4,7 @@ use Rattle.std.specs.Prelude.{◌∷◌, length, slice_get}
 use Rattle.fork_context.specs.Refusals.{keys_of_targets}
 use Rattle.sip_uri.specs.Uri.{Uri}
 use Rattle.sip_route.specs.declared.route_values.FirstRoute.{FirstRoute}
-use Rattle.proxy_config.specs.Setup.{KeepsRules, Location, LocationsAreTargets, Setup, location_key, locations_of}
+use Rattle.proxy_config.specs.Setup.{KeepsRulesWith, Location, LocationsAreTargets, Setup, location_key, locations_of}
 use Rattle.proxy_routing.specs.Targets.{candidate_at, candidates_by, candidates_of}
 use Rattle.fork_call.specs.inner.Distinct.{AreDistinct}
 
@@ -26,7 +26,7 @@ one_apart candidate m (suc n) key less b = absurd cc
 one_distinct : (candidate : CandidateTarget) → AreDistinct (candidate ∷ [])
 one_distinct candidate = record { few = omega arith; apart = λ (m, n, key, less, a, b). one_apart candidate m n key less b }
 
-pub distinct : LocationsAreTargets → (inside : Bool) (setup : Setup) (route : FirstRoute) (uri : Uri) → KeepsRules setup.locations → AreDistinct (candidates_by inside setup route uri)
+pub distinct : LocationsAreTargets → (inside : Bool) (setup : Setup) (route : FirstRoute) (uri : Uri) → KeepsRulesWith setup.streams setup.locations → AreDistinct (candidates_by inside setup route uri)
 distinct law false setup route uri keeps = one_distinct _
 distinct law true setup route uri keeps = by uri.user
   where
@@ -34,7 +34,7 @@ distinct law true setup route uri keeps = by uri.user
     by None = none_distinct
     by (Some user) =
         let ls = locations_of user setup.locations in
-        let are = law user setup.locations keeps in
+        let are = law setup.streams user setup.locations keeps in
         let few = are.few in
         let long = length_same setup.streams route ls in
         let key_at : (k : ℕ) (key : List ℕ) → slice_get (keys_of_targets (targets_of (map (candidate_at setup.streams route) ls))) k ≡ Some key → slice_get (map location_key ls) k ≡ Some key =

@@ -14,6 +14,7 @@ pub mod Opened
 pub mod OpenedCalls
 pub mod OpeningCommon
 pub mod Placed
+pub mod RecordRoutes
 pub mod Refused
 pub mod Retimed
 pub mod Running

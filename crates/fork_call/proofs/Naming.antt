@@ -19,6 +19,11 @@ use Rattle.call_model.specs.Built.{further_lines, generated}
 use Rattle.call_model.specs.OpenedRequest.{OpenedRequest, destination_by}
 use Rattle.fork_call.specs.Destinations.{destination_of_row, destination_to}
 use Rattle.fork_call.specs.Opening.{candidates_for}
+use Rattle.sip_via.specs.Edits.{with_headers}
+use Rattle.proxy_routing.specs.OwnCredentials.{AreSameBut}
+use Rattle.fork_call.proofs.laws.AnswersWithout.{answers_without, timestamps_without}
+use Rattle.proxy_routing.specs.OwnRoutes.{without_own_routes}
+use Rattle.proxy_routing.proofs.laws.OwnCredentials.{credentials, kept_without}
 use Rattle.proxy_routing.proofs.laws.OwnRoutes.{kept}
 use Rattle.proxy_routing.specs.Admission.{target_uri}
 use Rattle.proxy_routing.specs.Targets.{CandidateTarget, targets_of}
@@ -80,8 +85,16 @@ own_answers law times setup number m source call status opens =
     let step : (x : MessageText) (own : Own) → with (stripped x own) ≡ with x =
     λ x own. law x own status (further_lines (record call.opened { request = stripped x own }) status)
     ∙ ap (λ (ls : List HeaderText). generated_of x status ls) (further_same call.opened status (stripped x own) x (times x own)) in
-    let prepared : call.opened.request ≡ _ = ap (λ (x : Call). x.opened.request) begins.2 in
-    (pending_call.0, pending_call.1, ap with (prepared ∙ pending_call.2) ∙ kept with step setup pending_call.0)
+    let without : (x : MessageText) (lines : List HeaderText) → AreSameBut credentials lines x.headers → with (with_headers x lines) ≡ with x =
+    λ x lines same. answers_without x lines status (further_lines (record call.opened { request = with_headers x lines }) status) same
+    ∙ ap (λ (ls : List HeaderText). generated_of x status ls) (further_same call.opened status (with_headers x lines) x (timestamps_without x lines same)) in
+    let prepared : call.opened.request ≡ _ = ap (λ (x : Call). x.opened.request) begins.2 in (
+      pending_call.0,
+      pending_call.1,
+      ap with prepared
+          ∙ kept_without with without setup.realm (without_own_routes setup pending_call.0) opens.0 pending_call.2
+          ∙ kept with step setup pending_call.0,
+    )
 
 -- ---- the targets that a call began with
 

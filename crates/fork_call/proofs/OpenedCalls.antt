@@ -1,5 +1,5 @@
 -- What is known where a request was admitted, and where it was not.
-use Rattle.fork_call.proofs.OpeningCommon.{◌≡◌, ◌∙◌, true, false, Bool, ℕ, List, [], Option, Result, Ok, Err, ap, subst, IfOk, list_all, Rules, MessageText, StartText, Own, top_value, via_of, Call, OpenedRequest, IsAdmitted, target_uri, IsTurnedAway}
+use Rattle.fork_call.proofs.OpeningCommon.{◌≡◌, ◌∙◌, true, false, refl, Bool, ℕ, List, [], Option, Result, Ok, Err, ap, subst, IfOk, list_all, Rules, MessageText, StartText, Own, top_value, via_of, Call, OpenedRequest, IsAdmitted, target_uri, IsTurnedAway}
 use Rattle.fork_call.proofs.OpeningCommon.{IsBegun, CandidateTarget, has_hop}
 use Rattle.std.specs.Prelude.{IfErr, length, ◌==◌}
 use Rattle.std.proofs.Common.{sym}
@@ -18,7 +18,10 @@ use Rattle.proxy_routing.specs.declared.unrouted.Unrouted.TheVariants as unroute
 use Rattle.proxy_routing.specs.Admission.{IsPrepared, asks_extension}
 use Rattle.proxy_routing.specs.Unrouted.{IfRejected, IsGivenBack, IsTurnedBack}
 use Rattle.fork_call.specs.Opening.{Asks, IsOpenable, IsRefused, IsRefusedFor, IsUnreachable, Opens, Reaches, Refuses, candidates_for, opened_of, record_route_of, tried_by}
-use Rattle.fork_call.specs.inner.Refused.{IsRefusedAs, IsUnreachableAs}
+use Rattle.call_model.specs.Call.{numbered}
+use Rattle.fork_call.specs.Prepared.{IsPreparedAs, IsUnreachableAs, Prepared}
+use Rattle.fork_call.specs.inner.Refused.{HasTarget, IsRefusedAs}
+use Rattle.fork_call.proofs.laws.Prepared.{behind, given_back, opens_as_prepared, refused_as_prepared}
 use Rattle.call_model.specs.declared.tried_contacts.TriedContacts.{TriedContacts}
 use Rattle.proxy_routing.specs.Targets.{candidates, candidates_by, hop_if_any, is_domain}
 
@@ -36,40 +39,6 @@ turned_away setup m source NoTarget h = absurd h
 turned_away setup m source NoHop h = absurd h
 turned_away setup m source NoMemory h = absurd h
 
-behind : (setup : Setup) (m : MessageText) (source : Hop) (request : MessageText) → IsAdmitted setup m source request
-    → (fault : RequestRejection) → IsRefused setup request fault → Refuses setup m source fault
-behind setup m source request a BadRequest h = absurd h
-behind setup m source request a Scheme h = absurd h
-behind setup m source request a Hops h = absurd h
-behind setup m source request a Loop h = absurd h
-behind setup m source request a Extension h = (request, a, h)
-behind setup m source request a NoTarget h = (request, a, h)
-behind setup m source request a NoHop h = (request, a, h)
-behind setup m source request a NoMemory h = absurd h
-
-asked : (setup : Setup) (request : MessageText) (uri : Uri) → asks_extension request ≡ false → target_uri request ≡ Ok uri
-    → (fault : RequestRejection) → IsUnreachable setup request uri fault → IsRefused setup request fault
-asked setup request uri a t BadRequest h = absurd h
-asked setup request uri a t Scheme h = absurd h
-asked setup request uri a t Hops h = absurd h
-asked setup request uri a t Loop h = absurd h
-asked setup request uri a t Extension h = absurd h
-asked setup request uri a t NoTarget h = (a, uri, t, h)
-asked setup request uri a t NoHop h = (a, uri, t, h)
-asked setup request uri a t NoMemory h = absurd h
-
--- what a fault behind the first four steps gives back
-given_back : (setup : Setup) (m : MessageText) (source : Hop) (request back : MessageText) → IsAdmitted setup m source request → back ≡ request
-    → (fault : RequestRejection) → IsRefused setup request fault → IsGivenBack setup m source fault back
-given_back setup m source request back a e BadRequest h = absurd h
-given_back setup m source request back a e Scheme h = absurd h
-given_back setup m source request back a e Hops h = absurd h
-given_back setup m source request back a e Loop h = absurd h
-given_back setup m source request back a e Extension h = let P : MessageText → Type 0 = λ x. IsPrepared setup m source x in subst P (sym e) a.prepared
-given_back setup m source request back a e NoTarget h = let P : MessageText → Type 0 = λ x. IsPrepared setup m source x in subst P (sym e) a.prepared
-given_back setup m source request back a e NoHop h = let P : MessageText → Type 0 = λ x. IsPrepared setup m source x in subst P (sym e) a.prepared
-given_back setup m source request back a e NoMemory h = absurd h
-
 module _ {A : Type 0} where
   pub turned_back : (setup : Setup) (m : MessageText) (source : Hop) (why : Unrouted A) → IfRejected (IsTurnedBack setup m source) why → IfRejected (IsRefusedFor setup m source) why
   turned_back setup m source (unrouted.Rejected fault back) h = (turned_away setup m source fault h.0, h.1)
@@ -81,32 +50,64 @@ module _ {A : Type 0} where
       (behind setup m source request a fault h.0, given_back setup m source request back a h.1 fault h.0)
   behind_if setup m source request a unrouted.NoMemory h = tt
 
-  asked_so : (setup : Setup) (request : MessageText) (uri : Uri) → asks_extension request ≡ false → target_uri request ≡ Ok uri
-      → (why : Unrouted A) → IfRejected (IsUnreachableAs setup request uri) why → IfRejected (IsRefusedAs setup request) why
-  asked_so setup request uri a t (unrouted.Rejected fault back) h = (asked setup request uri a t fault h.0, h.1)
-  asked_so setup request uri a t unrouted.NoMemory h = tt
+  -- a request that asks for an extension
+  pub extension : (setup : Setup) (request : MessageText) (why : Unrouted A) → asks_extension request ≡ true → why ≡ unrouted.Rejected Extension request → IfRejected (IsRefusedAs setup request) why
+  extension setup request why asks e =
+      let P : Unrouted A → Type 0 = λ w. IfRejected (IsRefusedAs setup request) w in
+      subst P (sym e) (asks, refl)
 
-  -- of what is answered for a request that was admitted
-  pub opens_if : (setup : Setup) (number : ℕ) (m : MessageText) (source : Hop) (request : MessageText) → IsAdmitted setup m source request
-      → (r : Result Call (Unrouted A)) → IfOk r (λ call. Asks request (λ uri. Reaches setup number request source uri call)) → IfOk r (Opens setup number m source)
-  opens_if setup number m source request a (Ok call) h = (request, a, h)
-  opens_if setup number m source request a (Err why) h = tt
+  -- of a request that was admitted
+  pub prepared_if : (setup : Setup) (m : MessageText) (source : Hop) (request : MessageText) → IsAdmitted setup m source request
+      → (r : Result Prepared (Unrouted A)) → IfOk r (HasTarget request source) → IfOk r (IsPreparedAs setup m source)
+  prepared_if setup m source request a (Ok prepared) h =
+      let P : MessageText → Type 0 = λ x. IsAdmitted setup m source x in
+      record {
+        admitted = subst P (sym h.same) a;
+        from = h.from;
+        unasked = ap asks_extension h.same ∙ h.unasked;
+        names = ap target_uri h.same ∙ h.names;
+      }
+  prepared_if setup m source request a (Err why) h = tt
 
   pub refuses_if : (setup : Setup) (m : MessageText) (source : Hop) (request : MessageText) → IsAdmitted setup m source request
-      → (r : Result Call (Unrouted A)) → IfErr r (IfRejected (IsRefusedAs setup request)) → IfErr r (IfRejected (IsRefusedFor setup m source))
-  refuses_if setup m source request a (Ok call) h = tt
+      → (r : Result Prepared (Unrouted A)) → IfErr r (IfRejected (IsRefusedAs setup request)) → IfErr r (IfRejected (IsRefusedFor setup m source))
+  refuses_if setup m source request a (Ok prepared) h = tt
   refuses_if setup m source request a (Err why) h = behind_if setup m source request a why h
 
-  -- and of one that asks for no extension
-  pub asks_if : (setup : Setup) (number : ℕ) (source : Hop) (request : MessageText) (uri : Uri) → asks_extension request ≡ false → target_uri request ≡ Ok uri
-      → (r : Result Call (Unrouted A)) → IfOk r (Reaches setup number request source uri) → IfOk r (λ call. Asks request (λ u. Reaches setup number request source u call))
-  asks_if setup number source request uri a t (Ok call) h = (a, uri, t, h)
-  asks_if setup number source request uri a t (Err why) h = tt
+-- ---- of a request in parts
 
-  pub asked_if : (setup : Setup) (request : MessageText) (uri : Uri) → asks_extension request ≡ false → target_uri request ≡ Ok uri
-      → (r : Result Call (Unrouted A)) → IfErr r (IfRejected (IsUnreachableAs setup request uri)) → IfErr r (IfRejected (IsRefusedAs setup request))
-  asked_if setup request uri a t (Ok call) h = tt
-  asked_if setup request uri a t (Err why) h = asked_so setup request uri a t why h
+module _ {A : Type 0} (setup : Setup) (request other : MessageText) (source from : Hop) (uri named : Uri) (r : Result Call (Unrouted A)) where
+  pub reaches_same : request ≡ other → source ≡ from → uri ≡ named → IfOk r (Reaches setup 0 request source uri) → IfOk r (Reaches setup 0 other from named)
+  reaches_same a b c h =
+      let P : MessageText → Type 0 = λ x. IfOk r (Reaches setup 0 x source uri) in
+      let Q : Hop → Type 0 = λ x. IfOk r (Reaches setup 0 other x uri) in
+      let R : Uri → Type 0 = λ x. IfOk r (Reaches setup 0 other from x) in
+      subst R c (subst Q b (subst P a h))
+
+  pub unreached_same : request ≡ other → uri ≡ named → IfErr r (IfRejected (IsUnreachableAs setup request uri)) → IfErr r (IfRejected (IsUnreachableAs setup other named))
+  unreached_same a c h =
+      let P : MessageText → Type 0 = λ x. IfErr r (IfRejected (IsUnreachableAs setup x uri)) in
+      let R : Uri → Type 0 = λ x. IfErr r (IfRejected (IsUnreachableAs setup other x)) in
+      subst R c (subst P a h)
+
+-- ---- what is prepared and opened with one setup
+
+module _ {A : Type 0} where
+  pub all_open : (setup : Setup) (m : MessageText) (source : Hop) (prepared : Prepared) → IsPreparedAs setup m source prepared → (r : Result Call (Unrouted A))
+      → IfOk r (λ call. (number : ℕ) → Reaches setup number prepared.request prepared.source prepared.uri (numbered number call))
+      → IfOk r (λ call. (number : ℕ) → Opens setup number m source (numbered number call))
+  all_open setup m source prepared is (Ok call) h = λ number. opens_as_prepared setup number m source prepared (numbered number call) is (h number)
+  all_open setup m source prepared is (Err why) h = tt
+
+  refused_so : (setup : Setup) (m : MessageText) (source : Hop) (prepared : Prepared) → IsPreparedAs setup m source prepared → (why : Unrouted A)
+      → IfRejected (IsUnreachableAs setup prepared.request prepared.uri) why → IfRejected (IsRefusedFor setup m source) why
+  refused_so setup m source prepared is (unrouted.Rejected fault back) h = refused_as_prepared setup m source prepared fault back is h
+  refused_so setup m source prepared is unrouted.NoMemory h = tt
+
+  pub refuses_so : (setup : Setup) (m : MessageText) (source : Hop) (prepared : Prepared) → IsPreparedAs setup m source prepared → (r : Result Call (Unrouted A))
+      → IfErr r (IfRejected (IsUnreachableAs setup prepared.request prepared.uri)) → IfErr r (IfRejected (IsRefusedFor setup m source))
+  refuses_so setup m source prepared is (Ok call) h = tt
+  refuses_so setup m source prepared is (Err why) h = refused_so setup m source prepared is why h
 
 -- ---- the call that opens for a request to a URI
 

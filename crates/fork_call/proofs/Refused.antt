@@ -9,7 +9,9 @@ use Rattle.proxy_config.specs.Setup.{Setup}
 use Rattle.proxy_routing.specs.declared.fault.RequestRejection.{RequestRejection}
 use Rattle.proxy_routing.specs.declared.fault.RequestRejection.TheVariants.{BadRequest, Scheme, Hops, Loop, Extension, NoTarget, NoHop, NoMemory}
 use Rattle.proxy_routing.specs.Admission.{IsPrepared, asks_extension, is_at_its_end, is_well_formed, target_uri}
+use Rattle.proxy_routing.specs.OwnCredentials.{IsWithoutOwnCredentials}
 use Rattle.proxy_routing.specs.OwnRoutes.{without_own_routes}
+use Rattle.proxy_routing.proofs.laws.OwnCredentials.{one_left}
 use Rattle.proxy_routing.specs.Targets.{CandidateTarget, has_hop}
 use Rattle.fork_call.specs.Opening.{Refuses, candidates_for}
 use Rattle.fork_call.specs.Refused.{OneFaultHolds}
@@ -23,7 +25,9 @@ same_ok r x y a b = let e = sym a ∙ b in cc
 
 -- a request is prepared in one way
 same_prepared : (setup : Setup) (m : MessageText) (source : Hop) (a b : MessageText) → IsPrepared setup m source a → IsPrepared setup m source b → a ≡ b
-same_prepared setup m source a b (wa, ma, ea) (wb, mb, eb) = ea ∙ ap (without_own_routes setup) (same_ok _ wa wb ma mb) ∙ sym eb
+same_prepared setup m source a b (wa, ma, ea) (wb, mb, eb) =
+    let P : MessageText → Type 0 = λ x. IsWithoutOwnCredentials setup.realm (without_own_routes setup x) b in
+    one_left setup.realm (without_own_routes setup wa) a b ea (subst P (same_ok _ wb wa mb ma) eb)
 
 not_looped : (setup : Setup) (m : MessageText) (source : Hop) (a b : MessageText) → IsPrepared setup m source a → IsPrepared setup m source b
     → IsLoop a setup.own → (IsLoop b setup.own → ⊥) → ⊥

@@ -1,2 +1,4 @@
+pub mod AnswersWithout
 pub mod Crossing
+pub mod Prepared
 pub mod Readable

@@ -3,6 +3,7 @@ pub mod Carry
 pub mod Destinations
 pub mod Naming
 pub mod Opening
+pub mod Prepared
 pub mod Refused
 pub mod Runs
 pub mod Scheduled

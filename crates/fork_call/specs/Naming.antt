@@ -18,7 +18,7 @@ use Rattle.proxy_routing.specs.Targets.{CandidateTarget}
 use Rattle.fork_call.specs.Opening.{Opens, candidates_for}
 
 -- each answer of the proxy's own is that to the request as it was marked with its source, though the call keeps it without the
--- Route values that the proxy takes away
+-- Route values and the credentials that the proxy takes away
 abbrev pub OwnAnswersAreToTheRequest : Type 0
 OwnAnswersAreToTheRequest =
     (setup : Setup) (number : ℕ) (m : MessageText) (source : Hop) (call : Call) (status : OwnStatus) → Opens setup number m source call

@@ -1,5 +1,6 @@
 -- How a call opens, and why it does not (RFC 3261 sections 16.2 to 16.6).
-use Rattle.std.specs.Prelude.{◌≡◌, ◌≢◌, ℕ, Bool, ◌&&◌, true, false, List, [], Option, Some, None, Ok, if◌then◌else◌}
+use Rattle.std.specs.Prelude.{◌≡◌, ◌≢◌, ℕ, Bool, ◌&&◌, true, false, codes, List, [], ◌∷◌, ◌++◌, Option, Some, None, Ok, if◌then◌else◌}
+use Rattle.std.specs.Fmt.{decimal}
 use Rattle.std.specs.List.{list_all}
 use Rattle.fork_model.specs.History.{opening_rows}
 use Rattle.fork_model.specs.Table.{Rules}
@@ -9,11 +10,16 @@ use Rattle.sip_text.specs.Text.{MessageText, StartText}
 use Rattle.sip_uri.specs.declared.hop.Hop.{Hop}
 use Rattle.sip_uri.specs.Uri.{Uri}
 use Rattle.sip_via.specs.Received.{reply_of}
+use Rattle.sip_via.specs.Address.{address_text}
+use Rattle.sip_via.specs.declared.own.Own.{Own}
 use Rattle.sip_via.specs.TopVia.{top_value}
 use Rattle.sip_via.specs.ViaParts.{via_of}
+use Rattle.sip_route.specs.Loop.{call_id}
 use Rattle.sip_route.specs.RouteValues.{first_route}
 use Rattle.sip_build.specs.Dialogs.{opens_dialog}
 use Rattle.sip_build.specs.OwnRoute.{own_route}
+use Rattle.sip_digest.specs.Stamp.{token_text}
+use Rattle.proxy_config.specs.declared.dialog_token.DialogToken.{DialogToken}
 use Rattle.proxy_config.specs.Setup.{Setup}
 use Rattle.call_model.specs.declared.tried_contacts.TriedContacts.{TriedContacts}
 use Rattle.call_model.specs.declared.tried_contacts.TriedContacts.TheVariants.{Every, NoContacts, OverUdp}
@@ -32,10 +38,20 @@ use Rattle.proxy_routing.specs.Targets.{CandidateTarget, candidates, has_hop, ho
 abbrev pub IsOpenable : StartText → Type 0
 IsOpenable start = stands_alone (known_method start) ≡ true
 
+-- the URI of the proxy, with `lr` and a token behind that by which the proxy knows the requests of a dialog again, in angle brackets
+abbrev pub own_route_with : Own → (token : List ℕ) → List ℕ
+own_route_with own token = codes "<sip:" ++ (address_text own.addr ++ (58 ∷ (decimal own.port ++ (codes ";lr;d=" ++ (token ++ codes ">")))))
+
+-- the URI by which the proxy stays on the path of a dialog with this Call-ID, with the token of the dialog where there is one
+abbrev pub dialog_route : Own → Option DialogToken → (call_id : List ℕ) → List ℕ
+dialog_route own None id = own_route own
+dialog_route own (Some token) id = own_route_with own (token_text token.secret id token.second)
+
 -- the value of the Record-Route line by which the proxy stays on the path of the dialog that the request opens, where it is to
 -- (section 16.6 step 4)
 abbrev pub record_route_of : Setup → MessageText → Option (List ℕ)
-record_route_of setup request = if setup.records && opens_dialog request then Some (own_route setup.own) else None
+record_route_of setup request =
+    if setup.records && opens_dialog request then Some (dialog_route setup.own setup.token (call_id request)) else None
 
 -- which contacts of a 3xx are tried: none where the proxy is not responsible for the Request-URI (section 16.5), and those over
 -- UDP alone where it has no streams

@@ -3,23 +3,25 @@ ghost use Rattle.std.specs.Prelude.{◌≡◌, ◌≢◌, ◌<◌, ◌↔◌, �
 ghost use Rattle.std.specs.List.{list_all};
 ghost use Rattle.std.specs.Option.{option_and_then, option_map};
 ghost use Rattle.fork_model.specs.Table.{Row};
-ghost use Rattle.sip_text.specs.Message.{is_value};
 ghost use Rattle.sip_text.specs.Name.{first_value};
 ghost use Rattle.sip_route.specs.Hops.{IsHops, hops_name};
-ghost use Rattle.sip_build.specs.Dialogs.{opens_dialog};
 ghost use Rattle.sip_build.specs.Forwarding.{is_request};
+ghost use Rattle.proxy_config.specs.Setup as spec;
 ghost use Rattle.fork_rank.specs.KindView as kinds;
 ghost use Rattle.fork_model.specs.Log.{opening_log, table_of};
 ghost use Rattle.proxy_routing.specs.Admission.{target_uri};
 ghost use Rattle.proxy_routing.specs.Unrouted.{IfRejected};
-ghost use Rattle.fork_call.specs.Opening.{Asks, IsBegun, IsOpenable, IsRefusedFor, Opens, Reaches, record_route_of, tried_by};
-ghost use Rattle.fork_call.specs.inner.Refused.{IsRefusedAs, IsUnreachableAs};
+ghost use Rattle.fork_call.specs.Opening.{IsBegun, IsOpenable, IsRefusedFor, Reaches, tried_by};
+ghost use Rattle.fork_call.specs.Prepared.{IsPreparedAs, IsUnreachableAs};
+ghost use Rattle.fork_call.specs.inner.Refused.{HasTarget, IsRefusedAs};
 ghost use Rattle.fork_call.specs.Destinations.{AreDestinations, destination_to};
 ghost use Rattle.fork_call.specs.inner.Distinct.{AreDistinct};
 ghost use Rattle.sip_uri.specs.Fault.{Gives, refusal};
 ghost use Rattle.proxy_routing.specs.Targets.{has_hop, targets_of};
 
 use crate::opening_request::OpeningRequest;
+use crate::prepared_request::PreparedRequest;
+use crate::record_route::record_route_of;
 use call_branch::{Destination, OpenedRequest, Opening};
 use call_caller::row_place;
 use call_model::TriedContacts;
@@ -32,7 +34,6 @@ use proxy_routing::{
     CandidateTarget, RequestRejection, Unrouted, asks_extension, candidates, have_hops, hop_if_any,
     is_responsible_for, targets_of, validate_request,
 };
-use sip_build::{opens_dialog, write_own_route};
 use sip_route::{first_route, request_uri};
 use sip_text::Message;
 use sip_uri::{Hop, SipUri, UriFault};
@@ -181,36 +182,11 @@ fn tried_by(responsible: bool, streams: bool) -> TriedContacts
     }
 }
 
-/// Whether the proxy is to stay on the path of the dialog that the request opens.
-fn is_recorded<A: Allocator>(setup: &Setup<A>, request: &Message<A>) -> bool
-    ensures { result ≡ (setup.now.records && opens_dialog request.now) }
-{
-    setup.records() && opens_dialog(request)
-}
-
-/// The value of the Record-Route line by which the proxy stays on the path of the dialog that the request opens, where it is to
-/// (RFC 3261 section 16.6 step 4). It takes memory only there.
-fn record_route_of<A: Allocator>(
-    alloc: A,
-    setup: &Setup<A>,
-    request: &Message<A>,
-) -> Result<Option<Vec<u8, A>>, AllocError>
-    ensures value { IfOk result (λ made. option_map (λ v. v.items) made ≡ record_route_of setup.now request.now) }
-    ensures good { IfSome (record_route_of setup.now request.now) (λ value. IsTrue (is_value value)) }
-{
-    if !is_recorded(setup, request) {
-        return Ok(None);
-    }
-    let mut value = Vec::new(alloc);
-    write_own_route(setup.own(), &mut value)?;
-    Ok(Some(value))
-}
-
 /// The number of a call until it gets its own.
 const NO_NUMBER: u64 = 0;
 
 /// The state of the call that opens for a request to this URI, as it was prepared.
-fn open_to<A: Allocator + Clone>(
+fn open_at<A: Allocator + Clone>(
     setup: &Setup<A>,
     opening: OpeningRequest<A>,
     uri: &SipUri<A>,
@@ -259,22 +235,21 @@ fn open_to<A: Allocator + Clone>(
     }
 }
 
-/// The state of the call that opens for a request as it was prepared.
-fn open_prepared<A: Allocator + Clone>(
-    setup: &Setup<A>,
+/// The request as it was prepared, with the URI that it names.
+fn with_target<A: Allocator + Clone>(
     opening: OpeningRequest<A>,
-) -> Result<CallState<A>, Unrouted<A>>
+) -> Result<PreparedRequest<A>, Unrouted<A>>
     requires request { is_request opening.request.start ≡ true }
     requires hops { IfSome (first_value hops_name opening.request.headers) IsHops }
     requires readable { IsOk (target_uri opening.request) }
-    ensures opened { IfOk result (λ call. Asks opening.request (λ uri. Reaches setup.now 0 opening.request opening.source uri call)) }
-    ensures refused { IfErr result (IfRejected (IsRefusedAs setup.now opening.request)) }
+    ensures target { IfOk result (HasTarget opening.request opening.source) }
+    ensures refused { (setup : spec.Setup) → IfErr result (IfRejected (IsRefusedAs setup opening.request)) }
 {
     if asks_extension(&opening.request) {
         return Err(Unrouted::Rejected(RequestRejection::Extension, opening.request));
     }
     let uri = admitted_target(opening.alloc.clone()?, &opening.request)?;
-    open_to(setup, opening, &uri)
+    Ok(PreparedRequest::new(opening, uri))
 }
 
 /// Whether a message is a request that may open a call: neither an ACK nor a CANCEL, which are for a call that was opened
@@ -285,21 +260,19 @@ pub fn is_openable<A: Allocator>(message: &Message<A>) -> bool
     message.stands_alone()
 }
 
-/// The state of the call that a request opens; the request is neither an ACK nor a CANCEL. The targets of a request to the domain
-/// are the locations of its user; the one target of any other is its Request-URI, for which the proxy is not responsible:
-/// contacts of a 3xx are tried in the domain alone (RFC 3261 sections 16.3 to 16.6). Nothing was sent yet; a 100 is owed to an
-/// INVITE. The call has number 0 until it is given its own.
+/// A request that may open a call, as it is prepared; it is neither an ACK nor a CANCEL (RFC 3261 sections 16.3 steps 1 to 5, 16.4,
+/// 18.2.1 and 22.3).
 ///
 /// # Errors
 ///
-/// `Rejected` with the first of those of [`RequestRejection`] that holds, and the request as far as it was prepared; `NoMemory`
-/// wherever the allocator refuses.
-pub fn open<A: Allocator + Clone>(
+/// `Rejected` with the first of those of [`RequestRejection`] up to `Extension` that holds, and the request as far as it was prepared;
+/// `NoMemory` wherever the allocator refuses.
+pub fn prepare<A: Allocator + Clone>(
     setup: &Setup<A>,
     opening: OpeningRequest<A>,
-) -> Result<CallState<A>, Unrouted<A>>
+) -> Result<PreparedRequest<A>, Unrouted<A>>
     requires { IsOpenable opening.request.start }
-    ensures opened { IfOk result (Opens setup.now 0 opening.request opening.source) }
+    ensures prepared { IfOk result (IsPreparedAs setup.now opening.request opening.source) }
     ensures refused { IfErr result (IfRejected (IsRefusedFor setup.now opening.request opening.source)) }
 {
     let OpeningRequest {
@@ -309,15 +282,31 @@ pub fn open<A: Allocator + Clone>(
         now,
     } = opening;
     match validate_request(alloc.clone()?, setup, request, source) {
-        Ok(request) => open_prepared(
-            setup,
-            OpeningRequest {
-                alloc,
-                request,
-                source,
-                now,
-            },
-        ),
+        Ok(request) => with_target(OpeningRequest {
+            alloc,
+            request,
+            source,
+            now,
+        }),
         Err(why) => Err(why),
     }
+}
+
+/// The state of the call that a request opens, as it was prepared. The targets of a request to the domain are the locations of its
+/// user; the one target of any other is its Request-URI, for which the proxy is not responsible: contacts of a 3xx are tried in the
+/// domain alone (RFC 3261 sections 16.5 and 16.6). Nothing was sent yet; a 100 is owed to an INVITE. The call has number 0 until it
+/// is given its own.
+///
+/// # Errors
+///
+/// `Rejected` with `NoTarget` or `NoHop`, and the request; `NoMemory` wherever the allocator refuses.
+pub fn open_to<A: Allocator + Clone>(
+    setup: &Setup<A>,
+    prepared: PreparedRequest<A>,
+) -> Result<CallState<A>, Unrouted<A>>
+    ensures opened { IfOk result (Reaches setup.now 0 prepared.request prepared.source prepared.uri) }
+    ensures refused { IfErr result (IfRejected (IsUnreachableAs setup.now prepared.request prepared.uri)) }
+{
+    let (opening, uri) = prepared.into_parts();
+    open_at(setup, opening, &uri)
 }

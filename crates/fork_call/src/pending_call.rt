@@ -1,11 +1,14 @@
 //! Calls that have no number yet.
 ghost use Rattle.std.specs.Prelude.{◌≡◌, ℕ, IfErr, IfOk};
 ghost use Rattle.call_model.specs.Call.{numbered};
-ghost use Rattle.fork_call.specs.Opening.{IsOpenable, IsRefusedFor, Opens};
+ghost use Rattle.fork_call.specs.Opening.{IsOpenable, IsRefusedFor, Opens, Reaches};
+ghost use Rattle.fork_call.specs.Prepared.{IsUnreachableAs};
 ghost use Rattle.proxy_routing.specs.Unrouted.{IfRejected};
 
 use crate::call::Call;
+use crate::opening::{open_to, prepare};
 use crate::opening_request::OpeningRequest;
+use crate::prepared_request::PreparedRequest;
 use crate::schedule::BranchTimers;
 use crate::timing::schedule_of;
 use call_laws::calls_send_right;
@@ -40,7 +43,7 @@ impl<A: Allocator + Clone> Model for PendingCall<A> {
 }
 
 impl<A: Allocator + Clone> PendingCall<A> {
-    /// What a request opens, as [`Call::open`] says it.
+    /// What a request opens, as it is prepared and opened with one setup.
     ///
     /// # Errors
     ///
@@ -51,11 +54,31 @@ impl<A: Allocator + Clone> PendingCall<A> {
         ensures opened { IfOk result (λ pending_call. (number : ℕ) → Opens setup.now number opening.request opening.source (numbered number pending_call)) }
         ensures refused { IfErr result (IfRejected (IsRefusedFor setup.now opening.request opening.source)) }
     {
+        let alloc = opening.alloc.clone()?;
+        match prepare(setup, opening) {
+            Ok(prepared) => PendingCall::of(setup, alloc, prepared),
+            Err(unrouted) => Err(unrouted),
+        }
+    }
+
+    /// What a request opens as it was prepared, as [`open_to`] says it.
+    ///
+    /// # Errors
+    ///
+    /// `NoTarget` or `NoHop`, with the request; `NoMemory` wherever the allocator refuses.
+    pub fn of(
+        setup: &Setup<A>,
+        alloc: A,
+        prepared: PreparedRequest<A>,
+    ) -> Result<PendingCall<A>, Unrouted<A>>
+        ensures opened { IfOk result (λ pending_call. (number : ℕ)
+            → Reaches setup.now number prepared.request prepared.source prepared.uri (numbered number pending_call)) }
+        ensures refused { IfErr result (IfRejected (IsUnreachableAs setup.now prepared.request prepared.uri)) }
+    {
         calls_stay_sound();
         calls_send_right();
-        let own = opening.alloc.clone()?;
-        let rest = opening.alloc.clone()?;
-        let state = match crate::opening::open(setup, opening) {
+        let rest = alloc.clone()?;
+        let state = match open_to(setup, prepared) {
             Ok(state) => state,
             Err(unrouted) => return Err(unrouted),
         };
@@ -65,7 +88,7 @@ impl<A: Allocator + Clone> PendingCall<A> {
         Ok(PendingCall {
             state,
             schedule,
-            alloc: own,
+            alloc,
         })
     }
 

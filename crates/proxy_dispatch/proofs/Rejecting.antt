@@ -18,8 +18,14 @@ use Rattle.proxy_routing.specs.declared.unrouted.Unrouted.TheVariants as unroute
 use Rattle.proxy_routing.specs.Admission.{IsPrepared}
 use Rattle.proxy_routing.specs.Unrouted.{IfRejected}
 use Rattle.proxy_routing.specs.Refusing.{status_of_fault}
+use Rattle.sip_via.specs.Edits.{with_headers}
+use Rattle.proxy_routing.specs.OwnCredentials.{AreSameBut}
+use Rattle.proxy_routing.proofs.laws.LineValues.{same_values}
+use Rattle.proxy_routing.specs.OwnRoutes.{without_own_routes}
+use Rattle.proxy_routing.proofs.laws.OwnCredentials.{credentials, kept_without}
 use Rattle.proxy_routing.proofs.laws.OwnRoutes.{kept}
 use Rattle.fork_call.specs.Opening.{IsRefusedFor}
+use Rattle.fork_call.proofs.laws.AnswersWithout.{answers_without}
 use Rattle.proxy_dispatch.specs.declared.datagrams.Handled.TheVariants.{Answered}
 use Rattle.proxy_dispatch.specs.Becomes.{IsRejected}
 use Rattle.proxy_dispatch.specs.Sent.{answer_made, answer_of, answer_to}
@@ -35,6 +41,10 @@ KeepsAnswers = (m : MessageText) (own : Own) (status : OwnStatus) (further : Lis
 
 abbrev KeepsOthers : Type 0
 KeepsOthers = (m : MessageText) (own : Own) (name : List ℕ) → same_name route_name name ≡ false → values_of name (stripped m own).headers ≡ values_of name m.headers
+
+not_credentials : same_name credentials (codes "via") ≡ false
+unfolding full_name
+not_credentials = refl
 
 not_route : same_name route_name (codes "via") ≡ false
 unfolding full_name
@@ -54,9 +64,18 @@ module _ (answers : KeepsAnswers) (others : KeepsOthers) (source : Hop) (status 
   with_source_answer : (m back : MessageText) → marked m source ≡ Ok back → answer_to back status [] (reply_of (via_of (top_value back)) source) ≡ answer_of m source status []
   with_source_answer m back e = sym (ap (answer_made source status [] m) e)
 
+  same_top_without : (x : MessageText) (lines : List HeaderText) → AreSameBut credentials lines x.headers → top_value (with_headers x lines) ≡ top_value x
+  same_top_without x lines same =
+      ap (λ (values : List (List ℕ)). first_or_empty (flat_map values_in values)) (same_values credentials lines x.headers same (codes "via") not_credentials)
+
+  answer_without : (x : MessageText) (lines : List HeaderText) → AreSameBut credentials lines x.headers
+      → answer_to (with_headers x lines) status [] (reply_of (via_of (top_value (with_headers x lines))) source) ≡ answer_to x status [] (reply_of (via_of (top_value x)) source)
+  answer_without x lines same =
+      λ k. record { to = reply_of (via_of (same_top_without x lines same k)) source; bytes = spelling (answers_without x lines status [] same k); cause = cause.Answer }
+
   prepared_answer : (setup : Setup) (m back : MessageText) → IsPrepared setup m source back → answer_to back status [] (reply_of (via_of (top_value back)) source) ≡ answer_of m source status []
-  prepared_answer setup m back (with_source, is, same) =
-      ap (λ (x : MessageText). answer_to x status [] (reply_of (via_of (top_value x)) source)) same
+  prepared_answer setup m back (with_source, is, left) =
+      kept_without (λ (x : MessageText). answer_to x status [] (reply_of (via_of (top_value x)) source)) answer_without setup.realm (without_own_routes setup with_source) back left
       ∙ kept (λ (x : MessageText). answer_to x status [] (reply_of (via_of (top_value x)) source)) stripped_answer setup with_source
       ∙ with_source_answer m with_source is
 

@@ -13,7 +13,7 @@ use Rattle.call_model.specs.Built.{Datagram}
 use Rattle.proxy_routing.specs.declared.fault.RequestRejection.{RequestRejection}
 use Rattle.proxy_routing.specs.Admission.{IsAdmitted, target_uri}
 use Rattle.proxy_routing.specs.Refusing.{IsTurnedAway, status_of_fault}
-use Rattle.proxy_routing.specs.Targets.{hop_by, is_domain}
+use Rattle.proxy_routing.specs.Targets.{hop_to, is_domain}
 use Rattle.proxy_dispatch.specs.Sent.{passed_on}
 
 -- its To has the tag of the proxy's own answers (section 8.2.6.2)
@@ -25,13 +25,13 @@ abbrev pub GoesOn : Setup → MessageText → Option Datagram → Type 0
 GoesOn setup request None =
     (uri : Uri)
     × (target_uri request ≡ Ok uri)
-    × ((is_domain setup uri ≡ true) ⊎ (hop_by setup.streams (first_route request) uri ≡ None))
+    × ((is_domain setup uri ≡ true) ⊎ (hop_to setup (first_route request) uri ≡ None))
 GoesOn setup request (Some datagram) =
     (uri : Uri)
     × (hop : Hop)
     × (target_uri request ≡ Ok uri)
     × (is_domain setup uri ≡ false)
-    × (hop_by setup.streams (first_route request) uri ≡ Some hop)
+    × (hop_to setup (first_route request) uri ≡ Some hop)
     × (datagram ≡ passed_on setup request uri hop)
 
 -- what is sent on of an ACK: nothing where one of the first four steps of section 16.3 stops it

@@ -14,7 +14,7 @@ ghost use Rattle.proxy_dispatch.specs.inner.Sent.{seen_sent};
 use crate::datagrams::Handled;
 use crate::outcome::Outcome;
 use fork_call::{Cause, Datagram, Setup, admitted_target};
-use proxy_routing::{hop_by, is_responsible_for, validate_request};
+use proxy_routing::{hop_to, is_responsible_for, validate_request};
 use sip_build::{own_tag, write_forwarded};
 use sip_route::{first_route, loop_key};
 use sip_text::Message;
@@ -102,7 +102,7 @@ fn going_on<A: Allocator + Clone>(
     if is_responsible_for(setup, &uri) {
         return Ok(None);
     }
-    match hop_by(setup.has_streams(), first_route(request), &uri) {
+    match hop_to(setup, first_route(request), &uri) {
         None => Ok(None),
         Some(hop) => Ok(Some(passed_on(alloc, setup, request, &uri, hop)?)),
     }

@@ -4,7 +4,7 @@ use Rattle.fork_call.proofs.OpenedCalls.{fixed_so, reaches, some_if}
 use Rattle.proxy_routing.specs.Targets.{is_domain}
 use Rattle.fork_call.proofs.Distinct.{distinct}
 use Rattle.fork_call.specs.inner.Distinct.{AreDistinct}
-use Rattle.fork_call.proofs.opening.open_to.Goals as goal
+use Rattle.fork_call.proofs.opening.open_at.Goals as goal
 
 pub begin-requires-clause-distinct : goal.begin-requires-clause-distinct
 begin-requires-clause-distinct g c =
