@@ -36,7 +36,8 @@ fn append_own_route<A: Allocator>(
     append_decimal(out, u64::from(own.port))?;
     out.extend_from_slice(b";lr;d=")?;
     out.extend_from_slice(token)?;
-    out.push(b'>')
+    out.push(b'>')?;
+    Ok(())
 }
 
 /// The URI by which the proxy stays on the path of a dialog with this Call-ID, in angle brackets, with the token of the dialog.
