@@ -19,8 +19,8 @@ use Rattle.proxy_routing.specs.Admission.{IsPrepared, asks_extension}
 use Rattle.proxy_routing.specs.Unrouted.{IfRejected, IsGivenBack, IsTurnedBack}
 use Rattle.fork_call.specs.Opening.{Asks, IsOpenable, IsRefused, IsRefusedFor, IsUnreachable, Opens, Reaches, Refuses, candidates_for, opened_of, record_route_of, tried_by}
 use Rattle.call_model.specs.Call.{numbered}
-use Rattle.fork_call.specs.Prepared.{IsPreparedAs, IsUnreachableAs, Prepared}
-use Rattle.fork_call.specs.inner.Refused.{HasTarget, IsRefusedAs}
+use Rattle.fork_call.specs.Prepared.{IsPreparedAs, IsStoppedFor, IsUnreachableAs, Prepared, is_found_first}
+use Rattle.fork_call.specs.inner.Refused.{AsksAs, HasTarget}
 use Rattle.fork_call.proofs.laws.Prepared.{behind, given_back, opens_as_prepared, refused_as_prepared}
 use Rattle.call_model.specs.declared.tried_contacts.TriedContacts.{TriedContacts}
 use Rattle.proxy_routing.specs.Targets.{candidates, candidates_by, hop_if_any, is_domain}
@@ -39,21 +39,44 @@ turned_away setup m source NoTarget h = absurd h
 turned_away setup m source NoHop h = absurd h
 turned_away setup m source NoMemory h = absurd h
 
+-- by one of the first four steps
+turned_first : (setup : Setup) (m : MessageText) (source : Hop) (fault : RequestRejection) → IsTurnedAway setup m source fault → is_found_first fault ≡ true
+turned_first setup m source BadRequest h = refl
+turned_first setup m source Scheme h = refl
+turned_first setup m source Hops h = refl
+turned_first setup m source Loop h = refl
+turned_first setup m source Extension h = refl
+turned_first setup m source NoTarget h = absurd h
+turned_first setup m source NoHop h = absurd h
+turned_first setup m source NoMemory h = refl
+
+-- by the fifth
+asks_for : (setup : Setup) (m : MessageText) (source : Hop) (request back : MessageText) → IsAdmitted setup m source request
+    → (fault : RequestRejection) → AsksAs request fault back → IsStoppedFor setup m source fault back
+asks_for setup m source request back a BadRequest h = absurd h
+asks_for setup m source request back a Scheme h = absurd h
+asks_for setup m source request back a Hops h = absurd h
+asks_for setup m source request back a Loop h = absurd h
+asks_for setup m source request back a Extension h =
+    (refl, (behind setup m source request a Extension h.0, given_back setup m source request back a h.1 Extension h.0))
+asks_for setup m source request back a NoTarget h = absurd h
+asks_for setup m source request back a NoHop h = absurd h
+asks_for setup m source request back a NoMemory h = absurd h
+
 module _ {A : Type 0} where
-  pub turned_back : (setup : Setup) (m : MessageText) (source : Hop) (why : Unrouted A) → IfRejected (IsTurnedBack setup m source) why → IfRejected (IsRefusedFor setup m source) why
-  turned_back setup m source (unrouted.Rejected fault back) h = (turned_away setup m source fault h.0, h.1)
+  pub turned_back : (setup : Setup) (m : MessageText) (source : Hop) (why : Unrouted A) → IfRejected (IsTurnedBack setup m source) why → IfRejected (IsStoppedFor setup m source) why
+  turned_back setup m source (unrouted.Rejected fault back) h = (turned_first setup m source fault h.0, (turned_away setup m source fault h.0, h.1))
   turned_back setup m source unrouted.NoMemory h = tt
 
-  behind_if : (setup : Setup) (m : MessageText) (source : Hop) (request : MessageText) → IsAdmitted setup m source request
-      → (why : Unrouted A) → IfRejected (IsRefusedAs setup request) why → IfRejected (IsRefusedFor setup m source) why
-  behind_if setup m source request a (unrouted.Rejected fault back) h =
-      (behind setup m source request a fault h.0, given_back setup m source request back a h.1 fault h.0)
-  behind_if setup m source request a unrouted.NoMemory h = tt
+  stopped_if : (setup : Setup) (m : MessageText) (source : Hop) (request : MessageText) → IsAdmitted setup m source request
+      → (why : Unrouted A) → IfRejected (AsksAs request) why → IfRejected (IsStoppedFor setup m source) why
+  stopped_if setup m source request a (unrouted.Rejected fault back) h = asks_for setup m source request back a fault h
+  stopped_if setup m source request a unrouted.NoMemory h = tt
 
   -- a request that asks for an extension
-  pub extension : (setup : Setup) (request : MessageText) (why : Unrouted A) → asks_extension request ≡ true → why ≡ unrouted.Rejected Extension request → IfRejected (IsRefusedAs setup request) why
-  extension setup request why asks e =
-      let P : Unrouted A → Type 0 = λ w. IfRejected (IsRefusedAs setup request) w in
+  pub extension : (request : MessageText) (why : Unrouted A) → asks_extension request ≡ true → why ≡ unrouted.Rejected Extension request → IfRejected (AsksAs request) why
+  extension request why asks e =
+      let P : Unrouted A → Type 0 = λ w. IfRejected (AsksAs request) w in
       subst P (sym e) (asks, refl)
 
   -- of a request that was admitted
@@ -70,9 +93,14 @@ module _ {A : Type 0} where
   prepared_if setup m source request a (Err why) h = tt
 
   pub refuses_if : (setup : Setup) (m : MessageText) (source : Hop) (request : MessageText) → IsAdmitted setup m source request
-      → (r : Result Prepared (Unrouted A)) → IfErr r (IfRejected (IsRefusedAs setup request)) → IfErr r (IfRejected (IsRefusedFor setup m source))
+      → (r : Result Prepared (Unrouted A)) → IfErr r (IfRejected (AsksAs request)) → IfErr r (IfRejected (IsStoppedFor setup m source))
   refuses_if setup m source request a (Ok prepared) h = tt
-  refuses_if setup m source request a (Err why) h = behind_if setup m source request a why h
+  refuses_if setup m source request a (Err why) h = stopped_if setup m source request a why h
+
+  -- what is stopped is refused
+  pub stopped_refused : (setup : Setup) (m : MessageText) (source : Hop) (why : Unrouted A) → IfRejected (IsStoppedFor setup m source) why → IfRejected (IsRefusedFor setup m source) why
+  stopped_refused setup m source (unrouted.Rejected fault back) h = h.1
+  stopped_refused setup m source unrouted.NoMemory h = tt
 
 -- ---- of a request in parts
 

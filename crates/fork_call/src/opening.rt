@@ -6,14 +6,13 @@ ghost use Rattle.fork_model.specs.Table.{Row};
 ghost use Rattle.sip_text.specs.Name.{first_value};
 ghost use Rattle.sip_route.specs.Hops.{IsHops, hops_name};
 ghost use Rattle.sip_build.specs.Forwarding.{is_request};
-ghost use Rattle.proxy_config.specs.Setup as spec;
 ghost use Rattle.fork_rank.specs.KindView as kinds;
 ghost use Rattle.fork_model.specs.Log.{opening_log, table_of};
 ghost use Rattle.proxy_routing.specs.Admission.{target_uri};
 ghost use Rattle.proxy_routing.specs.Unrouted.{IfRejected};
 ghost use Rattle.fork_call.specs.Opening.{IsBegun, IsOpenable, IsRefusedFor, Reaches, tried_by};
-ghost use Rattle.fork_call.specs.Prepared.{IsPreparedAs, IsUnreachableAs};
-ghost use Rattle.fork_call.specs.inner.Refused.{HasTarget, IsRefusedAs};
+ghost use Rattle.fork_call.specs.Prepared.{IsPreparedAs, IsStoppedFor, IsUnreachableAs};
+ghost use Rattle.fork_call.specs.inner.Refused.{AsksAs, HasTarget};
 ghost use Rattle.fork_call.specs.Destinations.{AreDestinations, destination_to};
 ghost use Rattle.fork_call.specs.inner.Distinct.{AreDistinct};
 ghost use Rattle.sip_uri.specs.Fault.{Gives, refusal};
@@ -243,7 +242,7 @@ fn with_target<A: Allocator + Clone>(
     requires hops { IfSome (first_value hops_name opening.request.headers) IsHops }
     requires readable { IsOk (target_uri opening.request) }
     ensures target { IfOk result (HasTarget opening.request opening.source) }
-    ensures refused { (setup : spec.Setup) → IfErr result (IfRejected (IsRefusedAs setup opening.request)) }
+    ensures refused { IfErr result (IfRejected (AsksAs opening.request)) }
 {
     if asks_extension(&opening.request) {
         return Err(Unrouted::Rejected(RequestRejection::Extension, opening.request));
@@ -273,7 +272,7 @@ pub fn prepare<A: Allocator + Clone>(
 ) -> Result<PreparedRequest<A>, Unrouted<A>>
     requires { IsOpenable opening.request.start }
     ensures prepared { IfOk result (IsPreparedAs setup.now opening.request opening.source) }
-    ensures refused { IfErr result (IfRejected (IsRefusedFor setup.now opening.request opening.source)) }
+    ensures refused { IfErr result (IfRejected (IsStoppedFor setup.now opening.request opening.source)) }
 {
     let OpeningRequest {
         alloc,

@@ -16,7 +16,7 @@ returns-in-Ok-clause-prepared g c =
 
 pub returns-in-Ok-clause-refused : goal.returns-in-Ok-clause-refused
 returns-in-Ok-clause-refused g c =
-    refuses_if c.args.setup.now c.args.opening.request c.args.opening.source c.in-Ok.request c.in-Ok.ensures.admitted c.with_target.result (c.with_target.ensures.refused c.args.setup.now)
+    refuses_if c.args.setup.now c.args.opening.request c.args.opening.source c.in-Ok.request c.in-Ok.ensures.admitted c.with_target.result c.with_target.ensures.refused
 
 pub returns-in-Err-clause-refused : goal.returns-in-Err-clause-refused
 returns-in-Err-clause-refused g c =
