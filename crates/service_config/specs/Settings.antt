@@ -11,7 +11,7 @@ use Rattle.sip_uri.specs.Uri.{Uri}
 use Rattle.sip_uri.specs.declared.hop.Hop.{Hop}
 use Rattle.proxy_config.specs.Line as setup
 use Rattle.proxy_config.specs.Parts as parts
-use Rattle.proxy_config.specs.Setup.{Location, Setup, is_datagram, next_hop}
+use Rattle.proxy_config.specs.Setup.{Location, Setup, is_reached, next_hop}
 use Rattle.service_config.specs.Line.{Line, SetupLine, RingLine, RealmLine, ExpiresLine, StrangersLine, TrustLine, GatewayLine, LocationLine, CommentLine}
 use Rattle.service_config.specs.Net.{address_number, has, loopback}
 use Rattle.service_config.specs.declared.expirations.Expirations.{Expirations}
@@ -99,7 +99,7 @@ is_same_hop hop gateway = address_number gateway.hop.addr == address_number hop.
 -- a URI with a hop over UDP, and without a user
 abbrev pub gateway_at : ℕ → Uri → Option Hop → Option Gateway
 gateway_at q uri None = None
-gateway_at q uri (Some hop) = if is_datagram hop.transport && not (is_some uri.user) then Some (record { q = q; uri = uri; hop = hop }) else None
+gateway_at q uri (Some hop) = if is_reached false hop.transport && not (is_some uri.user) then Some (record { q = q; uri = uri; hop = hop }) else None
 
 -- where it is none too many, and no other has its hop
 abbrev pub gateway_added : List Gateway → Gateway → Option (List Gateway)

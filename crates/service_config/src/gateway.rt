@@ -3,15 +3,18 @@ ghost use Rattle.std.specs.Prelude.{◌≡◌, ◌≤◌, IfOk};
 ghost use Rattle.std.specs.List.{list_any};
 ghost use Rattle.std.specs.Option.{option_map};
 ghost use Rattle.fork_rank.specs.Field.{most_q};
-ghost use Rattle.proxy_config.specs.Setup.{is_datagram};
 ghost use Rattle.sip_uri.specs.Hop.{hop_of};
 ghost use Rattle.service_config.specs.Net.{address_number};
 ghost use Rattle.service_config.specs.Settings.{gateway_at, is_gateway_at, is_same_hop};
 
 use crate::net::address_number;
-use sip_uri::{Hop, SipUri, Transport};
+use proxy_config::is_reached;
+use sip_uri::{Hop, SipUri};
 use std::alloc::{Allocator, Global};
 use std::marker::Model;
+
+/// What is read has no connections.
+const NO_STREAMS: bool = false;
 
 /// Where requests for users that the domain has not got are sent.
 #[derive(Drop)]
@@ -31,16 +34,6 @@ impl<A: Allocator> Model for Gateway<A> {
     ghost view = { λ g. record { q = g.q; uri = g.uri; hop = g.hop } };
 
     ghost invariant = { λ g. g.q ≤ most_q };
-}
-
-/// Whether it is that of a datagram.
-fn is_datagram(transport: Transport) -> bool
-    ensures { result ≡ is_datagram transport }
-{
-    match transport {
-        Transport::Udp => true,
-        Transport::Tcp | Transport::Back(_) => false,
-    }
 }
 
 impl<A: Allocator> Gateway<A> {
@@ -90,7 +83,7 @@ impl<A: Allocator + Clone> Gateway<A> {
         match uri.next_hop() {
             None => None,
             Some(hop) => {
-                if is_datagram(hop.transport) && uri.user().is_none() {
+                if is_reached(NO_STREAMS, hop.transport) && uri.user().is_none() {
                     Some(Gateway { q, uri, hop })
                 } else {
                     None
