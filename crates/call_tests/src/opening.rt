@@ -9,7 +9,7 @@ use call_state::CallState;
 use fork_call::is_openable;
 use fork_context::Kind;
 use proxy_config::Setup;
-use proxy_routing::{RequestRejection, is_responsible_for, validate_request};
+use proxy_routing::{RequestRejection, has_via, is_responsible_for, validate_request};
 use sip_text::Message;
 use sip_uri::{Hop, SipUri, Transport};
 use std::alloc::Global;
@@ -54,6 +54,21 @@ fn a_request_is_admitted(rt: HostRuntime) {
         is_admitted(rt.alloc()) == Some(true),
         "a request with its source",
     );
+}
+
+/// Whether the top Via value of the request with these changes can be read.
+fn is_readable(alloc: Global, changes: &[Change]) -> Option<bool> {
+    let message = request_with(alloc, changes)?;
+    Some(has_via(&message))
+}
+
+#[test]
+fn a_via_value_is_readable(rt: HostRuntime) {
+    let plain = is_readable(rt.alloc(), &[]);
+    holds(&rt, plain == Some(true), "as it stands");
+    let old: [Change; 1] = [(1, b"v: SIP/2.0/UDP 192.0.2.1;branch=1")];
+    let without = is_readable(rt.alloc(), &old);
+    holds(&rt, without == Some(false), "a branch of before RFC 3261");
 }
 
 /// Whether a proxy that is set up so is responsible for the URI that a text spells.

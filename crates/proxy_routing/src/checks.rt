@@ -8,13 +8,13 @@ ghost use Rattle.sip_uri.specs.Uri.{Uri};
 ghost use Rattle.sip_route.specs.Hops.{hops_of};
 ghost use Rattle.sip_via.specs.BranchText.{cookie};
 ghost use Rattle.sip_via.specs.ViaParts.{or_empty};
-ghost use Rattle.proxy_routing.specs.Admission.{are_hops, asks_extension, begins_with, is_spent, is_uri_or_other, target_uri};
+ghost use Rattle.proxy_routing.specs.Admission.{are_hops, asks_extension, begins_with, has_via, is_spent, is_uri_or_other, target_uri};
 ghost use Rattle.proxy_routing.specs.inner.Admission.{is_formed, names_cookie};
 
 use sip_route::{MaxForwards, routes_are_readable};
 use sip_text::Message;
 use sip_uri::UriFault;
-use sip_via::top_branch;
+use sip_via::{sender_of, top_branch, top_via};
 use std::alloc::Allocator;
 
 /// Whether a branch begins with the cookie of RFC 3261 section 8.1.1.7.
@@ -32,6 +32,16 @@ fn has_cookie<A: Allocator>(message: &Message<A>) -> bool
     ensures { result ≡ names_cookie message.now }
 {
     begins_with_cookie(top_branch(message))
+}
+
+/// Whether the top Via value of a request can be read, and its branch begins as RFC 3261 has it (section 8.1.1.7).
+pub fn has_via<A: Allocator>(message: &Message<A>) -> bool
+    ensures { result ≡ has_via message.now }
+{
+    match sender_of(top_via(message)) {
+        None => false,
+        Some(sender) => begins_with_cookie(sender.branch),
+    }
 }
 
 /// Whether Max-Forwards, where the request has one, can be read.

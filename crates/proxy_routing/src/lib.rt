@@ -16,7 +16,7 @@ mod targets;
 mod unrouted;
 
 pub use admission::validate_request;
-pub use checks::asks_extension;
+pub use checks::{asks_extension, has_via};
 pub use fault::RequestRejection;
 pub use law::{taking_credentials_keeps_the_rest, taking_own_routes_keeps_the_rest};
 pub use targets::{
