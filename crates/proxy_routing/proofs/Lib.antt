@@ -4,3 +4,4 @@ pub mod laws
 pub mod GoodLeft
 pub mod Refused
 pub mod TakenOff
+pub mod Cookies
