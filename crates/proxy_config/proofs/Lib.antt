@@ -9,3 +9,4 @@ pub mod Ringing
 pub mod Streams
 pub mod Targets
 pub mod UserPlaces
+pub mod WaysMade

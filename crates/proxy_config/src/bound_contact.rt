@@ -8,10 +8,14 @@ use std::marker::Model;
 /// A contact that is bound to a user (RFC 3261 section 10), as far as requests are sent there.
 #[derive(Drop)]
 pub struct BoundContact<'a> {
-    uri: &'a [u8],
-    key: &'a [u8],
-    q: u16,
-    hop: Hop,
+    /// Its URI, as it is written.
+    pub(crate) uri: &'a [u8],
+    /// The key of its URI.
+    pub(crate) key: &'a [u8],
+    /// Its q, in thousandths.
+    pub(crate) q: u16,
+    /// The hop by which it is reached.
+    pub(crate) hop: Hop,
 }
 
 impl<'a> Model for BoundContact<'a> {
@@ -33,34 +37,5 @@ impl<'a> BoundContact<'a> {
         ensures { result ≡ record { uri = uri.now; key = key.now; q = q; hop = hop } }
     {
         BoundContact { uri, key, q, hop }
-    }
-
-    /// Its URI, as it is written.
-    pub(crate) fn uri(&self) -> &[u8]
-        ensures { result.now ≡ self.now.uri }
-    {
-        self.uri
-    }
-
-    /// The key of its URI.
-    pub(crate) fn key(&self) -> &[u8]
-        ensures { result.now ≡ self.now.key }
-    {
-        self.key
-    }
-
-    /// Its q, in thousandths.
-    pub(crate) fn q(&self) -> u16
-        ensures value { result ≡ self.now.q }
-        ensures most { result ≤ most_q }
-    {
-        self.q
-    }
-
-    /// The hop by which it is reached.
-    pub(crate) fn hop(&self) -> Hop
-        ensures { result ≡ self.now.hop }
-    {
-        self.hop
     }
 }

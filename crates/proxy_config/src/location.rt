@@ -2,7 +2,7 @@
 ghost use Rattle.std.specs.Prelude.{◌≡◌, ◌≤◌, IfOk};
 ghost use Rattle.fork_rank.specs.Field.{most_q};
 ghost use Rattle.proxy_config.specs.Moment.{as_requested, bound_location};
-ghost use Rattle.proxy_config.specs.Setup.{hop_or_that_of, is_of_user, location_key, next_hop, with_longest};
+ghost use Rattle.proxy_config.specs.Setup.{hop_or_that_of, location_key, next_hop, with_longest};
 
 use crate::bound_contact::BoundContact;
 use crate::target_key::{own_key, own_key_if_any};
@@ -70,13 +70,6 @@ impl<A: Allocator> Location<A> {
         ensures { result.now ≡ self.now.user }
     {
         &self.user
-    }
-
-    /// Whether the location is one of this user.
-    pub fn is_of(&self, user: &[u8]) -> bool
-        ensures { result ≡ is_of_user user.now self.now }
-    {
-        self.user.as_slice() == user
     }
 
     /// The q of the location, in thousandths, 0 to 1000: those of a user with the greatest are tried first.
@@ -150,14 +143,14 @@ impl<A: Allocator + Clone> Location<A> {
     ) -> Result<Location<A>, AllocError>
         ensures { IfOk result (λ location. location ≡ bound_location user.now longest contact.now uri) }
     {
-        let own_key = own_key(alloc.clone()?, &uri, contact.hop())?;
+        let own_key = own_key(alloc.clone()?, &uri, contact.hop)?;
         let user = Vec::from_slice(alloc, user)?;
         Ok(Location {
             user,
-            q: contact.q(),
+            q: contact.q,
             uri,
-            hop: Some(contact.hop()),
-            next_hop: Some(contact.hop()),
+            hop: Some(contact.hop),
+            next_hop: Some(contact.hop),
             own_key,
             longest,
         })

@@ -39,7 +39,7 @@ fn add_contact<A: Allocator + Clone>(
     ensures next { OnOk result (locations.new ≡ with_contact streams user.now longest locations.old contact.now) }
     ensures keeps { OnOk result (KeepsRulesWith streams locations.old → KeepsRulesWith streams locations.new) }
 {
-    let Some(uri) = uri_if(alloc, contact.uri())? else {
+    let Some(uri) = uri_if(alloc, contact.uri)? else {
         return Ok(());
     };
     let location = Location::bound(alloc.clone()?, user, longest, contact, uri)?;

@@ -71,29 +71,11 @@ impl<A: Allocator> Model for SetupParts<A> {
 }
 
 impl<A: Allocator> SetupParts<A> {
-    fn set_own(&mut self, own: Own)
-        ensures { self.new ≡ record self.old { own = own } }
-    {
-        self.own = own;
-    }
-
     /// This number tells the run of the proxy from its others.
     pub fn set_instance(&mut self, instance: u32)
         ensures { self.new ≡ record self.old { instance = instance } }
     {
         self.instance = instance;
-    }
-
-    fn set_domain(&mut self, domain: Vec<u8, A>)
-        ensures { self.new ≡ record self.old { domain = domain.items } }
-    {
-        self.domain = domain;
-    }
-
-    fn set_rules(&mut self, rules: Rules)
-        ensures { self.new ≡ record self.old { rules = rules } }
-    {
-        self.rules = rules;
     }
 
     /// How long a branch to a target that is no location rings at most, in milliseconds (RFC 3261 section 16.6 step 11).
@@ -168,11 +150,11 @@ impl<A: Allocator + Clone> SetupParts<A> {
         ensures { IfOk result (λ done. (if done then Some self.new else None) ≡ with_line self.old (line_of line.entry)) }
     {
         match line {
-            SetupLine::Own(own) => self.set_own(own),
-            SetupLine::Instance(instance) => self.set_instance(instance),
-            SetupLine::Domain(host) => self.set_domain(host.to_vec(alloc.clone()?)?),
-            SetupLine::Prefer(preferred) => self.set_rules(with_preferred(self.rules, preferred)),
-            SetupLine::Depth(depth) => self.set_rules(with_depth(self.rules, depth)),
+            SetupLine::Own(own) => self.own = own,
+            SetupLine::Instance(instance) => self.instance = instance,
+            SetupLine::Domain(host) => self.domain = host.to_vec(alloc.clone()?)?,
+            SetupLine::Prefer(preferred) => self.rules = with_preferred(self.rules, preferred),
+            SetupLine::Depth(depth) => self.rules = with_depth(self.rules, depth),
             SetupLine::Location(user, q, uri) => {
                 return self.add_location(alloc, user, q, uri, USUAL_LONGEST);
             }

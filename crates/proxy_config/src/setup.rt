@@ -344,6 +344,7 @@ impl<A: Allocator + Clone> Setup<A> {
     /// # Errors
     ///
     /// Only where the allocator refuses.
+    #[tactic(auto, using(crate::proofs::WaysMade::with_ways_made))]
     pub fn with_ways(&self, alloc: A, contacts: &[BoundContact<'_>]) -> Result<Setup<A>, AllocError>
         ensures { IfOk result (λ setup. setup ≡ with_ways contacts.now self.now) }
     {

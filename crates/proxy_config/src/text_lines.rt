@@ -21,15 +21,6 @@ fn behind_lines(text: &[u8], count: usize) -> Option<&[u8]>
     Some(rest)
 }
 
-fn first_line(text: &[u8]) -> Option<&[u8]>
-    ensures { option_copied result ≡ first_line text.now }
-{
-    match cut_at(text, b'\n') {
-        (_, None) => None,
-        (line, Some(_)) => Some(line),
-    }
-}
-
 /// The line with this number, counted from 1, without its LF.
 pub fn line_at(text: &[u8], number: usize) -> Option<&[u8]>
     ensures { option_copied result ≡ line_at text.now number }
@@ -37,8 +28,8 @@ pub fn line_at(text: &[u8], number: usize) -> Option<&[u8]>
     if number == 0 {
         return None;
     }
-    match behind_lines(text, number - 1) {
-        None => None,
-        Some(rest) => first_line(rest),
+    match cut_at(behind_lines(text, number - 1)?, b'\n') {
+        (_, None) => None,
+        (line, Some(_)) => Some(line),
     }
 }

@@ -30,8 +30,8 @@ impl<A: Allocator> Way<A> {
         ensures { IfOk result (λ way. way ≡ way_of contact.now) }
     {
         Ok(Way {
-            key: Vec::from_slice(alloc, contact.key())?,
-            hop: contact.hop(),
+            key: Vec::from_slice(alloc, contact.key)?,
+            hop: contact.hop,
         })
     }
 
