@@ -97,7 +97,6 @@ fn setup_of(alloc: Global, text: &[u8]) -> Option<Setup<Global>> {
 /// Whether a location is this user's, at this q, and a request to it goes to this place.
 fn is_location(location: &Location, user: &[u8], q: u16, hop: Hop) -> bool {
     location.user() == user
-        && location.is_of(user)
         && location.q() == q
         && location.uri().next_hop() == Some(hop)
         && location.next_hop() == Some(hop)
