@@ -94,6 +94,7 @@ fn setup_in<A: Allocator + Clone>(settings: ServiceSettings<A>) -> Result<Setup<
 ///
 /// `TooLong` over 1,048,576 bytes; else `Line` with the first malformed line of the text, a missing one by the number that it would
 /// have; else `Unobeyed` with a line that is not obeyed yet; `NoMemory` where the allocator refuses.
+#[tactic(auto, using(crate::proofs::Configured::configured_so, crate::proofs::Configured::refused_so))]
 pub fn read_text<A: Allocator + Clone>(
     alloc: A,
     text: &[u8],
