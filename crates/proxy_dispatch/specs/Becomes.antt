@@ -21,16 +21,21 @@ use Rattle.call_model.specs.SeenTaken.{seen_taken}
 use Rattle.call_model.specs.Take.{Full}
 use Rattle.call_model.specs.declared.taken.Taken.{Taken}
 use Rattle.proxy_routing.specs.declared.fault.RequestRejection.{RequestRejection}
-use Rattle.proxy_routing.specs.Admission.{IsPrepared}
+use Rattle.proxy_routing.specs.Admission.{IsAdmitted, IsPrepared}
 use Rattle.proxy_routing.specs.Refusing.{status_of_fault}
 use Rattle.call_state.specs.Matching.{BelongsToNone}
-use Rattle.fork_call.specs.Opening.{Opens, Refuses}
+use Rattle.fork_call.specs.Opening as opening
+use Rattle.fork_call.specs.Opening.{Refuses}
 use Rattle.fork_call.specs.Takes.{Takes}
 use Rattle.proxy_dispatch.specs.declared.datagrams.Handled.{Handled}
-use Rattle.proxy_dispatch.specs.declared.datagrams.Handled.TheVariants.{Dropped, Absorbed, Answered, TurnedAway, Forwarded, Opened, Delivered}
+use Rattle.proxy_dispatch.specs.declared.datagrams.Handled.TheVariants.{Dropped, Absorbed, Answered, TurnedAway, Forwarded, Opened, Delivered, Left}
+use Rattle.proxy_dispatch.specs.declared.admission.Opener.{Opener}
+use Rattle.proxy_dispatch.specs.declared.admission.Opener.TheVariants as openers
 use Rattle.proxy_dispatch.specs.declared.purpose.RequestKind.{RequestKind}
 use Rattle.proxy_dispatch.specs.declared.purpose.RequestKind.TheVariants.{Ack, Cancel, Opening}
-use Rattle.proxy_dispatch.specs.Admitting.{Admits, opener_of}
+use Rattle.authentication.specs.Answer.{Answer}
+use Rattle.proxy_routing.specs.Admission.{asks_extension, has_via}
+use Rattle.proxy_dispatch.specs.Admitting.{Answers, Decision, Leaves, Opens, Serving, opener_of}
 use Rattle.proxy_dispatch.specs.Asking.{asks_service}
 use Rattle.proxy_dispatch.specs.Looks.{Look, Found, Seen, Missed, Put, Spent}
 use Rattle.proxy_dispatch.specs.Purpose.{is_fault_answered, purpose_of}
@@ -95,7 +100,7 @@ AckBecomes setup m source _ sent = ⊥
 pub record IsOpened (setup : Setup) (m : MessageText) (source : Hop) (key : List ℕ) (looks : List Look) (handled : Handled) (sent : Option Datagram) : Type 0 where
   pub number : ℕ
   pub call : Call
-  pub opens : Opens setup number m source call
+  pub opens : opening.Opens setup number m source call
   pub seen : looks ≡ Put key number call ∷ []
   pub handled_is : handled ≡ Opened number
   pub sent_is : sent ≡ None
@@ -143,26 +148,75 @@ pub record IsTurnedAway (m : MessageText) (source : Hop) (looks : List Look) (ha
   pub handled_is : handled ≡ TurnedAway
   pub sent_is : sent ≡ Some (unavailable_to m source)
 
-abbrev pub AdmittedBecomes : (asks : Bool) → Setup → MessageText → Hop → ℕ → List ℕ → List Look → Handled → Option Datagram → Type 0
-AdmittedBecomes true setup m source now key looks handled sent = IsTold m source looks handled sent
-AdmittedBecomes false setup m source now key looks handled sent = OpeningBecomes setup m source now key looks handled sent
+-- ---- by what is decided
+
+-- it is answered so, with these further lines
+abbrev pub IsAnsweredWith : MessageText → Hop → Answer → Handled → Option Datagram → Type 0
+IsAnsweredWith m source answer handled sent = (handled ≡ Answered (code_of answer.status)) × (sent ≡ Some (answer_of m source answer.status answer.lines))
+
+-- it opens a call by the setup of the moment, or is answered, or left to another; where one of the steps of section 16.3 stops it, that holds
+-- whatever is decided
+abbrev pub DecidedBecomes : Decision → Setup → MessageText → Hop → ℕ → List ℕ → List Look → Handled → Option Datagram → Type 0
+DecidedBecomes (Opens moment) setup m source now key looks handled sent = OpeningBecomes moment m source now key looks handled sent
+DecidedBecomes (Answers answer) setup m source now key looks handled sent =
+    IsRejected setup m source looks handled sent
+    ⊎ ((looks ≡ []) × ((request : MessageText) × IsAdmitted setup m source request) × IsAnsweredWith m source answer handled sent)
+DecidedBecomes Leaves setup m source now key looks handled sent =
+    IsRejected setup m source looks handled sent
+    ⊎ ((looks ≡ []) × ((request : MessageText) × IsAdmitted setup m source request) × (handled ≡ Left) × (sent ≡ None))
+
+abbrev pub AdmittedBecomes : (asks : Bool) → Serving → Setup → MessageText → Hop → ℕ → List ℕ → List Look → Handled → Option Datagram → Type 0
+AdmittedBecomes true serving setup m source now key looks handled sent = IsTold m source looks handled sent
+AdmittedBecomes false serving setup m source now key looks handled sent =
+    (decision : Decision) × serving.decides setup m source now decision × DecidedBecomes decision setup m source now key looks handled sent
+
+-- a REGISTER for the domain: neither Max-Forwards nor Route values are looked at (section 10.3)
+abbrev pub RegisteredBecomes : Decision → Serving → Setup → MessageText → Hop → ℕ → List ℕ → List Look → Handled → Option Datagram → Type 0
+RegisteredBecomes (Opens moment) serving setup m source now key looks handled sent =
+    AdmittedBecomes false serving setup m source now key looks handled sent
+RegisteredBecomes (Answers answer) serving setup m source now key looks handled sent = (looks ≡ []) × IsAnsweredWith m source answer handled sent
+RegisteredBecomes Leaves serving setup m source now key looks handled sent = (looks ≡ []) × (handled ≡ Left) × (sent ≡ None)
+
+-- by its top Via value, and by what it asks for (sections 10.3 steps 1 and 2 and 16.3 step 1)
+abbrev pub RegisteringBecomes : (via asks : Bool) → Serving → Setup → MessageText → Hop → ℕ → List ℕ → List Look → Handled → Option Datagram → Type 0
+RegisteringBecomes false asks serving setup m source now key looks handled sent = (looks ≡ []) × IsAnswered m source own.BadRequest handled sent
+RegisteringBecomes true true serving setup m source now key looks handled sent = (looks ≡ []) × IsAnswered m source own.BadExtension handled sent
+RegisteringBecomes true false serving setup m source now key looks handled sent =
+    (decision : Decision) × serving.registers setup m source now decision × RegisteredBecomes decision serving setup m source now key looks handled sent
+
+-- by which request it is
+abbrev pub OpenerBecomes : Opener → Serving → Setup → MessageText → Hop → ℕ → List ℕ → List Look → Handled → Option Datagram → Type 0
+OpenerBecomes openers.Registering serving setup m source now key looks handled sent =
+    RegisteringBecomes (has_via m) (asks_extension m) serving setup m source now key looks handled sent
+OpenerBecomes _ serving setup m source now key looks handled sent =
+    AdmittedBecomes (asks_service setup m) serving setup m source now key looks handled sent
 
 -- by whether it was admitted
-abbrev pub AskedBecomes : (admitted : Bool) → Setup → MessageText → Hop → ℕ → List ℕ → List Look → Handled → Option Datagram → Type 0
-AskedBecomes false setup m source now key looks handled sent = IsTurnedAway m source looks handled sent
-AskedBecomes true setup m source now key looks handled sent = AdmittedBecomes (asks_service setup m) setup m source now key looks handled sent
+abbrev pub AskedBecomes : (admitted : Bool) → Serving → Setup → MessageText → Hop → ℕ → List ℕ → List Look → Handled → Option Datagram → Type 0
+AskedBecomes false serving setup m source now key looks handled sent = IsTurnedAway m source looks handled sent
+AskedBecomes true serving setup m source now key looks handled sent =
+    OpenerBecomes (opener_of setup m) serving setup m source now key looks handled sent
 
 -- a request without a key is not well formed (section 16.3 step 1)
-abbrev pub NewBecomes : Admits → Setup → MessageText → Hop → ℕ → Option (List ℕ) → List Look → Handled → Option Datagram → Type 0
-NewBecomes admits setup m source now None looks handled sent = (looks ≡ []) × IsAnswered m source own.BadRequest handled sent
-NewBecomes admits setup m source now (Some key) looks handled sent =
-    (admitted : Bool) × admits (opener_of m) admitted × AskedBecomes admitted setup m source now key looks handled sent
+abbrev pub NewBecomes : Serving → Setup → MessageText → Hop → ℕ → Option (List ℕ) → List Look → Handled → Option Datagram → Type 0
+NewBecomes serving setup m source now None looks handled sent = (looks ≡ []) × IsAnswered m source own.BadRequest handled sent
+NewBecomes serving setup m source now (Some key) looks handled sent =
+    (admitted : Bool) × serving.admits (opener_of setup m) admitted × AskedBecomes admitted serving setup m source now key looks handled sent
+
+-- an ACK of an answer of the proxy's own is absorbed; any other goes on by the setup by which it would be opened, and else is dropped
+abbrev pub AckDecided : Decision → Setup → MessageText → Hop → Handled → Option Datagram → Type 0
+AckDecided (Opens moment) setup m source handled sent = AckBecomes moment m source handled sent
+AckDecided (Answers answer) setup m source handled sent = (handled ≡ Dropped) × (sent ≡ None)
+AckDecided Leaves setup m source handled sent = (handled ≡ Dropped) × (sent ≡ None)
 
 -- by what it is for: a CANCEL of nothing that the proxy knows is answered 481 (section 9.2)
-abbrev pub UnknownBecomes : Admits → Setup → MessageText → Hop → ℕ → RequestKind → List Look → Handled → Option Datagram → Type 0
-UnknownBecomes admits setup m source now Ack looks handled sent = (looks ≡ []) × AckBecomes setup m source handled sent
-UnknownBecomes admits setup m source now Cancel looks handled sent = (looks ≡ []) × IsAnswered m source own.CallDoesNotExist handled sent
-UnknownBecomes admits setup m source now Opening looks handled sent = NewBecomes admits setup m source now (request_key m) looks handled sent
+abbrev pub UnknownBecomes : Serving → Setup → MessageText → Hop → ℕ → RequestKind → List Look → Handled → Option Datagram → Type 0
+UnknownBecomes serving setup m source now Ack looks handled sent =
+    (looks ≡ [])
+    × ((HasOwnTag m × (handled ≡ Absorbed) × (sent ≡ None))
+    ⊎ ((HasOwnTag m → ⊥) × (decision : Decision) × serving.decides setup m source now decision × AckDecided decision setup m source handled sent))
+UnknownBecomes serving setup m source now Cancel looks handled sent = (looks ≡ []) × IsAnswered m source own.CallDoesNotExist handled sent
+UnknownBecomes serving setup m source now Opening looks handled sent = NewBecomes serving setup m source now (request_key m) looks handled sent
 
 -- ---- a request
 
@@ -172,26 +226,26 @@ LooksFor None number looks rest = (number ≡ None) × (looks ≡ rest)
 LooksFor (Some key) number looks rest = looks ≡ Found key number ∷ rest
 
 -- the call that is found by its key is given it (section 17.2.3)
-abbrev pub KeyBecomes : Admits → Setup → MessageText → Hop → ℕ → RequestKind → Option ℕ → List Look → Handled → Option Datagram → Type 0
-KeyBecomes admits setup m source now purpose (Some number) looks handled sent = IsGiven number m source now looks handled sent
-KeyBecomes admits setup m source now purpose None looks handled sent = UnknownBecomes admits setup m source now purpose looks handled sent
+abbrev pub KeyBecomes : Serving → Setup → MessageText → Hop → ℕ → RequestKind → Option ℕ → List Look → Handled → Option Datagram → Type 0
+KeyBecomes serving setup m source now purpose (Some number) looks handled sent = IsGiven number m source now looks handled sent
+KeyBecomes serving setup m source now purpose None looks handled sent = UnknownBecomes serving setup m source now purpose looks handled sent
 
-abbrev pub RequestBecomes : Admits → Setup → MessageText → Hop → ℕ → RequestKind → List Look → Handled → Option Datagram → Type 0
-RequestBecomes admits setup m source now purpose looks handled sent =
+abbrev pub RequestBecomes : Serving → Setup → MessageText → Hop → ℕ → RequestKind → List Look → Handled → Option Datagram → Type 0
+RequestBecomes serving setup m source now purpose looks handled sent =
     (number : Option ℕ)
     × (rest : List Look)
     × LooksFor (request_key m) number looks rest
-    × KeyBecomes admits setup m source now purpose number rest handled sent
+    × KeyBecomes serving setup m source now purpose number rest handled sent
 
 -- ---- the whole
 
-abbrev pub BecomesBy : Admits → Setup → MessageText → Hop → ℕ → Option RequestKind → List Look → Handled → Option Datagram → Type 0
-BecomesBy admits setup m source now None looks handled sent = ResponseBecomes setup m source now looks handled sent
-BecomesBy admits setup m source now (Some purpose) looks handled sent = RequestBecomes admits setup m source now purpose looks handled sent
+abbrev pub BecomesBy : Serving → Setup → MessageText → Hop → ℕ → Option RequestKind → List Look → Handled → Option Datagram → Type 0
+BecomesBy serving setup m source now None looks handled sent = ResponseBecomes setup m source now looks handled sent
+BecomesBy serving setup m source now (Some purpose) looks handled sent = RequestBecomes serving setup m source now purpose looks handled sent
 
 -- of a message
-abbrev pub MessageBecomes : Admits → Setup → MessageText → Hop → ℕ → List Look → Handled → Option Datagram → Type 0
-MessageBecomes admits setup m source now looks handled sent = BecomesBy admits setup m source now (purpose_of m.start) looks handled sent
+abbrev pub MessageBecomes : Serving → Setup → MessageText → Hop → ℕ → List Look → Handled → Option Datagram → Type 0
+MessageBecomes serving setup m source now looks handled sent = BecomesBy serving setup m source now (purpose_of m.start) looks handled sent
 
 -- of a text that is no message: a request whose body is cut short is answered 400, made of what stands before the body
 abbrev pub FaultBecomes : Fault → Hop → Handled → Option Datagram → Type 0
@@ -204,7 +258,7 @@ FaultBecomes fault source (Answered status) sent =
     × (sent ≡ Some (answer_of head source own.BadRequest []))
 FaultBecomes fault source _ sent = ⊥
 
-abbrev pub Becomes : Admits → Setup → List ℕ → Hop → ℕ → List Look → Handled → Option Datagram → Type 0
-Becomes admits setup text source now looks handled sent =
-    ((m : MessageText) × IsText text m × MessageBecomes admits setup m source now looks handled sent)
+abbrev pub Becomes : Serving → Setup → List ℕ → Hop → ℕ → List Look → Handled → Option Datagram → Type 0
+Becomes serving setup text source now looks handled sent =
+    ((m : MessageText) × IsText text m × MessageBecomes serving setup m source now looks handled sent)
     ⊎ ((fault : Fault) × IsRefused text fault × (looks ≡ []) × FaultBecomes fault source handled sent)

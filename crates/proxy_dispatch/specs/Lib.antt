@@ -1,5 +1,6 @@
 pub mod inner
 pub mod Purpose
+pub mod SeenDecision
 pub mod Admitting
 pub mod Asking
 pub mod Looks

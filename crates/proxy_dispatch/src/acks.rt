@@ -1,18 +1,21 @@
 //! ACKs that no call takes: an ACK of an answer of the proxy's own is absorbed, an ACK of an answer that went up goes
 //! on.
-ghost use Rattle.std.specs.Prelude.{◌≡◌, ◌↔◌, IfOk, IfSome, IsOk, IsTrue, Some, true};
+ghost use Rattle.std.specs.Prelude.{◌≡◌, ◌↔◌, [], IfOk, IfSome, IsOk, IsTrue, Some, true};
 ghost use Rattle.sip_text.specs.Name.{first_value};
 ghost use Rattle.sip_route.specs.Hops.{IsHops, hops_name};
 ghost use Rattle.sip_build.specs.Forwarding.{is_request};
 ghost use Rattle.proxy_routing.specs.Admission.{target_uri};
 ghost use Rattle.call_model.specs.SeenDatagram.{seen};
-ghost use Rattle.proxy_dispatch.specs.Becomes.{AckBecomes};
+ghost use Rattle.proxy_dispatch.specs.declared.purpose.RequestKind.TheVariants as purposes;
+ghost use Rattle.proxy_dispatch.specs.Becomes.{AckBecomes, UnknownBecomes};
 ghost use Rattle.proxy_dispatch.specs.Passing.{GoesOn, HasOwnTag, Passes};
 ghost use Rattle.proxy_dispatch.specs.Sent.{passed_on, passed_text, passing_branch};
 ghost use Rattle.proxy_dispatch.specs.inner.Sent.{seen_sent};
 
+use crate::admission::{Admission, Decision};
 use crate::datagrams::Handled;
 use crate::outcome::Outcome;
+use crate::received::ReceivedMessage;
 use fork_call::{Cause, Datagram, Setup, admitted_target};
 use proxy_routing::{hop_to, is_responsible_for, validate_request};
 use sip_build::{own_tag, write_forwarded};
@@ -21,6 +24,7 @@ use sip_text::Message;
 use sip_uri::{Hop, SipUri};
 use sip_via::BranchName;
 use std::alloc::{AllocError, Allocator};
+use std::sync::Wait;
 
 /// The number of the call in the branch of an ACK that goes on: the ACK belongs to no call.
 const NO_CALL: u64 = 0;
@@ -128,22 +132,48 @@ fn passing<A: Allocator + Clone>(
     }
 }
 
-/// What becomes of an ACK from `source` that is for no call: it is absorbed where it acknowledges an answer of the proxy's own, and
-/// goes on where it can (RFC 3261 sections 16.11 and 17.2.1).
-pub(crate) fn acknowledged<A: Allocator + Clone>(
+/// What becomes of an ACK from `source` that is for no call, none of an answer of the proxy's own, with this setup: it goes on where
+/// it can (RFC 3261 section 16.11).
+fn going<A: Allocator + Clone>(
     alloc: A,
     setup: &Setup<A>,
     ack: Message<A>,
     source: Hop,
 ) -> Result<Outcome<A>, AllocError>
-    requires { is_request ack.start ≡ true }
+    requires request { is_request ack.start ≡ true }
+    requires other { HasOwnTag ack → ⊥ }
     ensures { IfOk result (λ outcome. AckBecomes setup.now ack source outcome.handled (seen_sent outcome.datagram)) }
 {
-    if has_own_tag(&ack) {
-        return Ok(Outcome::silent(Handled::Absorbed));
-    }
     match passing(alloc, setup, ack, source)? {
         None => Ok(Outcome::silent(Handled::Dropped)),
         Some(datagram) => Ok(Outcome::sends(Handled::Forwarded, datagram)),
+    }
+}
+
+/// What becomes of an ACK that is for no call: it is absorbed where it acknowledges an answer of the proxy's own; any other goes on
+/// where it can and would be opened, and is dropped else (RFC 3261 sections 16.11 and 17.2.1).
+pub(crate) fn acknowledged<A: Allocator + Clone, N: Admission, R: Wait>(
+    rt: &R,
+    setup: &Setup<A>,
+    admission: &N,
+    received: ReceivedMessage<A>,
+) -> Result<Outcome<A>, AllocError>
+    requires { is_request received.message.start ≡ true }
+    ensures { IfOk result (λ outcome. UnknownBecomes (N.serving admission.now) setup.now received.message received.source received.now purposes.Ack
+        [] outcome.handled (seen_sent outcome.datagram)) }
+{
+    let ReceivedMessage {
+        alloc,
+        message: ack,
+        source,
+        now,
+    } = received;
+    if has_own_tag(&ack) {
+        return Ok(Outcome::silent(Handled::Absorbed));
+    }
+    match admission.decides(rt, &alloc, setup, &ack, source, now)? {
+        Decision::Opens => going(alloc, setup, ack, source),
+        Decision::OpensBy(moment) => going(alloc, &moment, ack, source),
+        Decision::Answers(_) | Decision::Leaves => Ok(Outcome::silent(Handled::Dropped)),
     }
 }

@@ -1,10 +1,16 @@
-//! Which requests may open calls.
-ghost use Rattle.std.specs.Prelude.{◌≡◌, Bool, true};
-ghost use Rattle.proxy_dispatch.specs.Admitting.{opener_of};
-ghost use Rattle.proxy_dispatch.specs.declared.admission.Opener.{Opener};
+//! Which requests may open calls, and what is decided of them.
+ghost use Rattle.std.specs.Prelude.{◌≡◌, IfOk, true};
+ghost use Rattle.proxy_config.specs.Setup as spec;
+ghost use Rattle.proxy_dispatch.specs.Admitting.{KeepsSetup, Serving, is_for_registrar, open_all, opener_of};
+ghost use Rattle.proxy_dispatch.specs.SeenDecision.{seen_decision};
 
+use authentication::OwnAnswer;
+use fork_call::Setup;
+use proxy_routing::is_responsible_for;
+use sip_route::request_uri;
 use sip_text::Message;
-use std::alloc::Allocator;
+use sip_uri::{Hop, SipUri, UriFault};
+use std::alloc::{AllocError, Allocator};
 use std::sync::Wait;
 
 /// Which request may open a call.
@@ -14,21 +20,79 @@ pub enum Opener {
     OutsideDialog,
     /// One within a dialog.
     WithinDialog,
+    /// A REGISTER for the domain, which opens none but where there is no registrar (section 10.2).
+    Registering,
 }
 
-/// Who says which requests may open calls. It is asked for each request that would open one, once no call has its key, and for
-/// no other datagram.
+/// What is decided of a request that may open a call.
+#[derive(Drop)]
+pub enum Decision<A: Allocator> {
+    /// It is opened by the setup as it stands.
+    Opens,
+    /// It is opened by this setup, which differs from the one that stands in where requests go, and in the token of a dialog.
+    OpensBy(Setup<A>),
+    /// It opens nothing, and is answered so.
+    Answers(OwnAnswer<A>),
+    /// It opens nothing, and another answers it, or nobody.
+    Leaves,
+}
+
+/// Who says which requests may open calls, and which do. It is asked for each request that would open one, once no call has its key,
+/// and for each ACK that no call has, and for no other datagram.
 pub trait Admission {
-    /// What each answer is: who gave it, for which request, and whether the request was admitted.
-    ghost admitted: { Self → Opener → Bool → Type 0 } = { λ _ _ _. Unit {0} };
+    ghost use Rattle.proxy_dispatch.specs.Admitting.{Serving, open_all};
+
+    /// What is said of requests.
+    ghost serving: { Self → Serving } = { λ _. open_all };
 
     /// Whether such a request may open a call now. Of each request that was admitted it is either told by `Handled::Opened`
     /// that it opened a call, or `release` is called.
     fn admits<R: Wait>(&self, rt: &R, opener: Opener) -> bool
-        ensures { Self.admitted self.now opener result };
+        ensures { (Self.serving self.now).admits opener result };
 
     /// Takes note that a request that was admitted opened no call.
     fn release<R: Wait>(&self, rt: &R);
+
+    /// What is decided of a request as it was received. It is decided before anything is looked at of RFC 3261 section 16.3, and holds
+    /// where nothing of that stops the request. An ACK is asked for, too: it goes on where it would be opened.
+    ///
+    /// # Errors
+    ///
+    /// Only where the allocator refuses.
+    fn decides<A: Allocator + Clone, R: Wait>(
+        &self,
+        _rt: &R,
+        _alloc: &A,
+        setup: &Setup<A>,
+        request: &Message<A>,
+        source: Hop,
+        now: u64,
+    ) -> Result<Decision<A>, AllocError>
+        ensures decided { IfOk result (λ decision. (Self.serving self.now).decides setup.now request.now source now (seen_decision setup.now decision)) }
+        ensures setup { IfOk result (λ decision. KeepsSetup setup.now (seen_decision setup.now decision)) }
+    {
+        Ok(Decision::Opens)
+    }
+
+    /// The same of a REGISTER for the domain.
+    ///
+    /// # Errors
+    ///
+    /// Only where the allocator refuses.
+    fn registers<A: Allocator + Clone, R: Wait>(
+        &self,
+        _rt: &R,
+        _alloc: &A,
+        setup: &Setup<A>,
+        request: &Message<A>,
+        source: Hop,
+        now: u64,
+    ) -> Result<Decision<A>, AllocError>
+        ensures decided { IfOk result (λ decision. (Self.serving self.now).registers setup.now request.now source now (seen_decision setup.now decision)) }
+        ensures setup { IfOk result (λ decision. KeepsSetup setup.now (seen_decision setup.now decision)) }
+    {
+        Ok(Decision::Opens)
+    }
 }
 
 /// Admits every request.
@@ -36,7 +100,7 @@ pub trait Admission {
 pub struct Unlimited;
 
 impl Admission for Unlimited {
-    ghost admitted = { λ _ _ admitted. admitted ≡ true };
+    ghost serving = { λ _. record open_all { admits = λ _ admitted. admitted ≡ true } };
 
     fn admits<R: Wait>(&self, _rt: &R, _opener: Opener) -> bool {
         true
@@ -45,12 +109,37 @@ impl Admission for Unlimited {
     fn release<R: Wait>(&self, _rt: &R) {}
 }
 
-/// Which request this is.
-pub(crate) fn opener_of<A: Allocator>(request: &Message<A>) -> Opener
-    ensures { result ≡ opener_of request.now }
+/// Whether a request is a REGISTER for the domain, and the proxy is a service (RFC 3261 section 10.2).
+fn is_for_registrar<A: Allocator + Clone>(
+    alloc: A,
+    setup: &Setup<A>,
+    request: &Message<A>,
+) -> Result<bool, AllocError>
+    ensures { IfOk result (λ is. is ≡ is_for_registrar setup.now request.now) }
 {
+    if !setup.is_for_a_service() || request.method().unwrap_or(b"") != b"REGISTER".as_slice() {
+        return Ok(false);
+    }
+    match SipUri::read(alloc, request_uri(request)) {
+        Ok(uri) => Ok(is_responsible_for(setup, &uri)),
+        Err(UriFault::NoMemory) => Err(AllocError),
+        Err(_) => Ok(false),
+    }
+}
+
+/// Which request this is.
+pub(crate) fn opener_of<A: Allocator + Clone>(
+    alloc: A,
+    setup: &Setup<A>,
+    request: &Message<A>,
+) -> Result<Opener, AllocError>
+    ensures { IfOk result (λ opener. opener ≡ opener_of setup.now request.now) }
+{
+    if is_for_registrar(alloc, setup, request)? {
+        return Ok(Opener::Registering);
+    }
     match request.to_tag() {
-        None => Opener::OutsideDialog,
-        Some(_) => Opener::WithinDialog,
+        None => Ok(Opener::OutsideDialog),
+        Some(_) => Ok(Opener::WithinDialog),
     }
 }

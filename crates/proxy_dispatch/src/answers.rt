@@ -10,6 +10,7 @@ ghost use Rattle.sip_via.specs.ViaParts.{via_of};
 ghost use Rattle.sip_build.specs.Generated.{code_of, generated_of};
 ghost use Rattle.call_model.specs.SeenDatagram.{seen};
 ghost use Rattle.proxy_config.specs.Setup.{Setup};
+ghost use Rattle.proxy_routing.specs.Admission.{IsPrepared};
 ghost use Rattle.proxy_routing.specs.Refusing.{status_of_fault};
 ghost use Rattle.fork_call.specs.Opening.{IsRefusedFor};
 ghost use Rattle.proxy_dispatch.specs.declared.datagrams.Handled.TheVariants as handled;
@@ -19,6 +20,7 @@ ghost use Rattle.proxy_dispatch.specs.inner.Sent.{seen_sent};
 
 use crate::datagrams::Handled;
 use crate::outcome::Outcome;
+use authentication::OwnAnswer;
 use fork_call::{Cause, Datagram, RequestRejection};
 use sip_build::{OwnStatus, stripping_keeps_answers, write_own_response};
 use sip_route::stripping_keeps_the_rest;
@@ -101,6 +103,40 @@ pub(crate) fn answered<A: Allocator + Clone>(
 {
     let datagram = answer_of(alloc, request, source, status, &[])?;
     Ok(Outcome::sends(Handled::Answered(status.code()), datagram))
+}
+
+/// What becomes of a request that came from `source` and is answered so.
+pub(crate) fn answered_with<A: Allocator + Clone>(
+    alloc: A,
+    request: Message<A>,
+    source: Hop,
+    answer: &OwnAnswer<A>,
+) -> Result<Outcome<A>, AllocError>
+    ensures handled { IfOk result (λ outcome. outcome.handled ≡ handled.Answered (code_of answer.now.status)) }
+    ensures sent { IfOk result (λ outcome. seen_sent outcome.datagram ≡ Some (answer_of request source answer.now.status answer.now.lines)) }
+{
+    let lines = answer.further_lines(alloc.clone()?)?;
+    let datagram = answer_of(alloc, request, source, answer.status(), &lines)?;
+    Ok(Outcome::sends(Handled::Answered(answer.status().code()), datagram))
+}
+
+/// What becomes of a request that has its source and is answered so.
+pub(crate) fn prepared_answer<A: Allocator + Clone>(
+    alloc: A,
+    request: &Message<A>,
+    source: Hop,
+    answer: &OwnAnswer<A>,
+) -> Result<Outcome<A>, AllocError>
+    ensures handled { IfOk result (λ outcome. outcome.handled ≡ handled.Answered (code_of answer.now.status)) }
+    ensures sent { (setup : Setup) (m : MessageText) → IsPrepared setup m source request.now
+        → IfOk result (λ outcome. seen_sent outcome.datagram ≡ Some (answer_of m source answer.now.status answer.now.lines)) }
+{
+    stripping_keeps_answers();
+    stripping_keeps_the_rest();
+    let lines = answer.further_lines(alloc.clone()?)?;
+    let to = reply_hop_of(request, source);
+    let datagram = answer_to(alloc, request, answer.status(), &lines, to)?;
+    Ok(Outcome::sends(Handled::Answered(answer.status().code()), datagram))
 }
 
 /// What becomes of an OPTIONS request to the proxy itself that came from `source`: a 200 says what the proxy takes (RFC 3261

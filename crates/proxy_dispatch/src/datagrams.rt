@@ -37,6 +37,8 @@ pub enum Handled {
     TurnedAway,
     /// The datagram is an ACK for an answer that went up, and was sent on (RFC 3261 section 16.11).
     Forwarded,
+    /// The request opened no call, and another answers it, or nobody.
+    Left,
     /// The request opened the call of this number.
     Opened(u64),
     /// The call of this number took the message.
@@ -52,7 +54,7 @@ fn of_message<A: Allocator + Clone, N: Admission, R: Wait>(
     received: ReceivedMessage<A>,
 ) -> Result<Outcome<A>, AllocError>
     ensures { IfOk result (λ outcome. (looks : List Look) × ShowsAll shown table.old looks table.new
-        × MessageBecomes (N.admitted admission.now) setup.now received.message received.source received.now
+        × MessageBecomes (N.serving admission.now) setup.now received.message received.source received.now
         looks outcome.handled (seen_sent outcome.datagram)) }
 {
     match purpose_of(&received.message) {
@@ -141,7 +143,7 @@ pub fn handle_message<A: Allocator + Clone, N: Admission, P: Port, R: Wait>(
         (looks : List Look)
         × (sent : Option built.Datagram)
         × ShowsAll shown table.old looks table.new
-        × MessageBecomes (N.admitted admission.now) setup.now received.message received.source received.now looks handled sent
+        × MessageBecomes (N.serving admission.now) setup.now received.message received.source received.now looks handled sent
         × IsHanded P.sends port.old sent port.new) }
     ensures err { OnErr result (port.new ≡ port.old) }
 {
@@ -169,7 +171,7 @@ pub fn handle<A: Allocator + Clone, N: Admission, P: Port, R: Wait>(
         (looks : List Look)
         × (sent : Option built.Datagram)
         × ShowsAll shown table.old looks table.new
-        × Becomes (N.admitted admission.now) setup.now received.entry.bytes.now received.entry.source received.entry.now looks handled sent
+        × Becomes (N.serving admission.now) setup.now received.entry.bytes.now received.entry.source received.entry.now looks handled sent
         × IsHanded P.sends port.old sent port.new) }
     ensures err { OnErr result (port.new ≡ port.old) }
 {

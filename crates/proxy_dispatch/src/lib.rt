@@ -17,7 +17,7 @@ mod received;
 mod requests;
 mod responses;
 
-pub use admission::{Admission, Opener, Unlimited};
+pub use admission::{Admission, Decision, Opener, Unlimited};
 pub use calls::{ReadBranch, SharedCalls};
 pub use datagrams::{Handled, handle, handle_message};
 pub use received::{Received, ReceivedMessage};

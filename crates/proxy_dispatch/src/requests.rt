@@ -8,16 +8,19 @@ ghost use Rattle.fork_call.specs.Opening.{Opens};
 ghost use Rattle.proxy_config.specs.Setup as spec;
 ghost use Rattle.sip_text.specs.Text.{MessageText};
 ghost use Rattle.proxy_dispatch.specs.declared.purpose.RequestKind.TheVariants as purposes;
-ghost use Rattle.proxy_dispatch.specs.Asking.{asks_service};
-ghost use Rattle.proxy_dispatch.specs.Becomes.{AdmittedBecomes, NewBecomes, OpeningBecomes, RequestBecomes, UnknownBecomes};
+ghost use Rattle.fork_call.specs.Prepared.{IsPreparedAs};
+ghost use Rattle.proxy_routing.specs.Admission.{asks_extension, has_via};
+ghost use Rattle.proxy_dispatch.specs.Admitting.{KeepsSetup};
+ghost use Rattle.proxy_dispatch.specs.SeenDecision.{seen_decision};
+ghost use Rattle.proxy_dispatch.specs.Becomes.{AdmittedBecomes, DecidedBecomes, NewBecomes, OpenerBecomes, OpeningBecomes, RegisteringBecomes, RequestBecomes, UnknownBecomes};
 ghost use Rattle.proxy_dispatch.specs.Looks.{Look, shown, ShowsAll};
 ghost use Rattle.proxy_dispatch.specs.Purpose.{purpose_of};
 ghost use Rattle.proxy_dispatch.specs.inner.Becomes.{is_opened};
 ghost use Rattle.proxy_dispatch.specs.inner.Sent.{seen_sent};
 
 use crate::acks::acknowledged;
-use crate::admission::{Admission, opener_of};
-use crate::answers::{answered, rejected, told, turned_away};
+use crate::admission::{Admission, Decision, Opener, opener_of};
+use crate::answers::{answered, answered_with, prepared_answer, rejected, told, turned_away};
 use crate::asking::asks_service;
 use crate::calls::SharedCalls;
 use crate::datagrams::Handled;
@@ -26,7 +29,8 @@ use crate::outcome::Outcome;
 use crate::purpose::RequestKind;
 use crate::received::ReceivedMessage;
 use call_table::PendingFault;
-use fork_call::{OpeningRequest, PendingCall, Setup, Unrouted};
+use fork_call::{OpeningRequest, PendingCall, PreparedRequest, Setup, Unrouted, prepare};
+use proxy_routing::{asks_extension, has_via};
 use sip_build::OwnStatus;
 use sip_route::append_request_key;
 use sip_text::Message;
@@ -72,33 +76,23 @@ fn put<A: Allocator + Clone, R: Wait>(
     }
 }
 
-/// What becomes of a request that was admitted and is not the proxy's own to answer: it opens a call, or is answered with the
-/// status that tells why not. The call is prepared before the keys are locked, so no other thread waits for that.
-#[tactic(auto, using(crate::proofs::Purposes::opening_opens))]
-fn opened<A: Allocator + Clone, R: Wait>(
+/// What becomes of a request that was prepared, which opens a call by this setup or is answered with the status that tells why not. The
+/// call is prepared before the keys are locked, so no other thread waits for that.
+fn opened_by<A: Allocator + Clone, R: Wait>(
     rt: &R,
     table: &mut SharedCalls<'_, A>,
     setup: &Setup<A>,
     key: Vec<u8, A>,
-    received: ReceivedMessage<A>,
+    alloc: A,
+    prepared: PreparedRequest<A>,
+    now: u64,
 ) -> Result<Outcome<A>, AllocError>
-    requires { purpose_of received.message.start ≡ Some purposes.Opening }
-    ensures { IfOk result (λ outcome. (looks : List Look) × ShowsAll shown table.old looks table.new
-        × OpeningBecomes setup.now received.message received.source received.now key.items looks outcome.handled (seen_sent outcome.datagram)) }
+    ensures { (m : MessageText) → IsPreparedAs setup.now m prepared.source prepared
+        → IfOk result (λ outcome. (looks : List Look) × ShowsAll shown table.old looks table.new
+        × OpeningBecomes setup.now m prepared.source now key.items looks outcome.handled (seen_sent outcome.datagram)) }
 {
-    let ReceivedMessage {
-        alloc,
-        message: request,
-        source,
-        now,
-    } = received;
-    let opening = OpeningRequest {
-        alloc: alloc.clone()?,
-        request,
-        source,
-        now,
-    };
-    match PendingCall::new(setup, opening) {
+    let source = prepared.source();
+    match PendingCall::of(setup, alloc.clone()?, prepared) {
         Ok(pending) => put(rt, table, key, pending, source, now),
         Err(why) => match why {
             Unrouted::Rejected(fault, request) => rejected(alloc, request, source, fault),
@@ -107,24 +101,148 @@ fn opened<A: Allocator + Clone, R: Wait>(
     }
 }
 
-/// What becomes of a request that was admitted: the proxy answers an OPTIONS to itself, and any other request opens a call or is
-/// answered (RFC 3261 section 11).
-fn admitted<A: Allocator + Clone, R: Wait>(
+/// What becomes of a request that was prepared, and of which this is decided.
+fn decided<A: Allocator + Clone, R: Wait>(
     rt: &R,
     table: &mut SharedCalls<'_, A>,
     setup: &Setup<A>,
+    key: Vec<u8, A>,
+    alloc: A,
+    prepared: PreparedRequest<A>,
+    now: u64,
+    decision: Decision<A>,
+) -> Result<Outcome<A>, AllocError>
+    requires { KeepsSetup setup.now (seen_decision setup.now decision) }
+    ensures { (m : MessageText) → IsPreparedAs setup.now m prepared.source prepared
+        → IfOk result (λ outcome. (looks : List Look) × ShowsAll shown table.old looks table.new
+        × DecidedBecomes (seen_decision setup.now decision) setup.now m prepared.source now key.items looks outcome.handled (seen_sent outcome.datagram)) }
+{
+    match decision {
+        Decision::Opens => opened_by(rt, table, setup, key, alloc, prepared, now),
+        Decision::OpensBy(moment) => opened_by(rt, table, &moment, key, alloc, prepared, now),
+        Decision::Answers(answer) => {
+            prepared_answer(alloc, prepared.request(), prepared.source(), &answer)
+        }
+        Decision::Leaves => Ok(Outcome::silent(Handled::Left)),
+    }
+}
+
+/// What becomes of a request that was admitted and is not the proxy's own to answer: what is decided of it, or it is answered with the
+/// status that tells what stops it.
+#[tactic(auto, using(crate::proofs::Purposes::opening_opens))]
+fn opened<A: Allocator + Clone, N: Admission, R: Wait>(
+    rt: &R,
+    table: &mut SharedCalls<'_, A>,
+    setup: &Setup<A>,
+    admission: &N,
     key: Vec<u8, A>,
     received: ReceivedMessage<A>,
 ) -> Result<Outcome<A>, AllocError>
     requires { purpose_of received.message.start ≡ Some purposes.Opening }
     ensures { IfOk result (λ outcome. (looks : List Look) × ShowsAll shown table.old looks table.new
-        × AdmittedBecomes (asks_service setup.now received.message) setup.now received.message received.source received.now key.items
+        × AdmittedBecomes false (N.serving admission.now) setup.now received.message received.source received.now key.items
         looks outcome.handled (seen_sent outcome.datagram)) }
 {
+    let ReceivedMessage {
+        alloc,
+        message: request,
+        source,
+        now,
+    } = received;
+    let decision = admission.decides(rt, &alloc, setup, &request, source, now)?;
+    let opening = OpeningRequest {
+        alloc: alloc.clone()?,
+        request,
+        source,
+        now,
+    };
+    match prepare(setup, opening) {
+        Ok(prepared) => decided(rt, table, setup, key, alloc, prepared, now, decision),
+        Err(why) => match why {
+            Unrouted::Rejected(fault, request) => rejected(alloc, request, source, fault),
+            Unrouted::NoMemory => Err(AllocError),
+        },
+    }
+}
+
+/// What becomes of a REGISTER for the domain (RFC 3261 section 10.3).
+fn registered<A: Allocator + Clone, N: Admission, R: Wait>(
+    rt: &R,
+    table: &mut SharedCalls<'_, A>,
+    setup: &Setup<A>,
+    admission: &N,
+    key: Vec<u8, A>,
+    received: ReceivedMessage<A>,
+) -> Result<Outcome<A>, AllocError>
+    requires { purpose_of received.message.start ≡ Some purposes.Opening }
+    ensures { IfOk result (λ outcome. (looks : List Look) × ShowsAll shown table.old looks table.new
+        × RegisteringBecomes (has_via received.message) (asks_extension received.message) (N.serving admission.now) setup.now
+        received.message received.source received.now key.items looks outcome.handled (seen_sent outcome.datagram)) }
+{
+    if !has_via(&received.message) {
+        return answered(
+            received.alloc,
+            received.message,
+            received.source,
+            OwnStatus::BadRequest,
+        );
+    }
+    if asks_extension(&received.message) {
+        return answered(
+            received.alloc,
+            received.message,
+            received.source,
+            OwnStatus::BadExtension,
+        );
+    }
+    let ReceivedMessage {
+        alloc,
+        message,
+        source,
+        now,
+    } = received;
+    match admission.registers(rt, &alloc, setup, &message, source, now)? {
+        Decision::Opens | Decision::OpensBy(_) => opened(
+            rt,
+            table,
+            setup,
+            admission,
+            key,
+            ReceivedMessage {
+                alloc,
+                message,
+                source,
+                now,
+            },
+        ),
+        Decision::Answers(answer) => answered_with(alloc, message, source, &answer),
+        Decision::Leaves => Ok(Outcome::silent(Handled::Left)),
+    }
+}
+
+/// What becomes of a request that was admitted: the proxy answers an OPTIONS to itself (RFC 3261 section 11), a REGISTER for the domain
+/// is the registrar's, and of any other it is decided.
+fn admitted<A: Allocator + Clone, N: Admission, R: Wait>(
+    rt: &R,
+    table: &mut SharedCalls<'_, A>,
+    setup: &Setup<A>,
+    admission: &N,
+    opener: Opener,
+    key: Vec<u8, A>,
+    received: ReceivedMessage<A>,
+) -> Result<Outcome<A>, AllocError>
+    requires { purpose_of received.message.start ≡ Some purposes.Opening }
+    ensures { IfOk result (λ outcome. (looks : List Look) × ShowsAll shown table.old looks table.new
+        × OpenerBecomes opener (N.serving admission.now) setup.now received.message received.source received.now key.items
+        looks outcome.handled (seen_sent outcome.datagram)) }
+{
+    if opener == Opener::Registering {
+        return registered(rt, table, setup, admission, key, received);
+    }
     if asks_service(received.alloc.clone()?, setup, &received.message)? {
         return told(received.alloc, received.message, received.source);
     }
-    opened(rt, table, setup, key, received)
+    opened(rt, table, setup, admission, key, received)
 }
 
 /// Whether a call was opened.
@@ -150,13 +268,14 @@ fn asked<A: Allocator + Clone, N: Admission, R: Wait>(
 ) -> Result<Outcome<A>, AllocError>
     requires { purpose_of received.message.start ≡ Some purposes.Opening }
     ensures { IfOk result (λ outcome. (looks : List Look) × ShowsAll shown table.old looks table.new
-        × NewBecomes (N.admitted admission.now) setup.now received.message received.source received.now (Some key.items)
+        × NewBecomes (N.serving admission.now) setup.now received.message received.source received.now (Some key.items)
         looks outcome.handled (seen_sent outcome.datagram)) }
 {
-    if !admission.admits(rt, opener_of(&received.message)) {
+    let opener = opener_of(received.alloc.clone()?, setup, &received.message)?;
+    if !admission.admits(rt, opener) {
         return turned_away(received.alloc, received.message, received.source);
     }
-    let outcome = admitted(rt, table, setup, key, received);
+    let outcome = admitted(rt, table, setup, admission, opener, key, received);
     if !has_opened(&outcome) {
         admission.release(rt);
     }
@@ -178,11 +297,11 @@ fn unknown<A: Allocator + Clone, N: Admission, R: Wait>(
     requires purpose { purpose_of received.message.start ≡ Some purpose }
     requires key { option_map (λ text. text.items) key ≡ request_key received.message }
     ensures { IfOk result (λ outcome. (looks : List Look) × ShowsAll shown table.old looks table.new
-        × UnknownBecomes (N.admitted admission.now) setup.now received.message received.source received.now purpose
+        × UnknownBecomes (N.serving admission.now) setup.now received.message received.source received.now purpose
         looks outcome.handled (seen_sent outcome.datagram)) }
 {
     match purpose {
-        RequestKind::Ack => acknowledged(received.alloc, setup, received.message, received.source),
+        RequestKind::Ack => acknowledged(rt, setup, admission, received),
         RequestKind::Cancel => answered(
             received.alloc,
             received.message,
@@ -217,7 +336,7 @@ pub(crate) fn requested<A: Allocator + Clone, N: Admission, R: Wait>(
 ) -> Result<Outcome<A>, AllocError>
     requires { purpose_of received.message.start ≡ Some purpose }
     ensures { IfOk result (λ outcome. (looks : List Look) × ShowsAll shown table.old looks table.new
-        × RequestBecomes (N.admitted admission.now) setup.now received.message received.source received.now purpose
+        × RequestBecomes (N.serving admission.now) setup.now received.message received.source received.now purpose
         looks outcome.handled (seen_sent outcome.datagram)) }
 {
     let key = key_of(received.alloc.clone()?, &received.message)?;
