@@ -5,8 +5,10 @@ use crate::texts::{SOURCE, setup_of, shelf_of};
 use call_messages::lines::{CALL_ID, FROM, MARKED, TAGGED, TO, VIA, text_of};
 use call_table::Shelf;
 use fork_call::{Call, Setup};
-use proxy_dispatch::{Admission, Handled, Opener, Received, SharedCalls, handle};
-use std::alloc::Global;
+use proxy_dispatch::{Admission, Decision, Handled, Opener, Received, SharedCalls, handle};
+use sip_text::Message;
+use sip_uri::Hop;
+use std::alloc::{AllocError, Allocator, Global};
 use std::sync::Wait;
 use std::sync::atomic::{AtomicU64, Ordering};
 
@@ -44,7 +46,7 @@ impl Gate {
 impl Admission for Gate {
     fn admits<R: Wait>(&self, _rt: &R, opener: Opener) -> bool {
         let asked = match opener {
-            Opener::OutsideDialog => &self.outside,
+            Opener::OutsideDialog | Opener::Registering => &self.outside,
             Opener::WithinDialog => &self.within,
         };
         asked.fetch_add(1, Ordering::SeqCst);
@@ -53,6 +55,30 @@ impl Admission for Gate {
 
     fn release<R: Wait>(&self, _rt: &R) {
         self.released.fetch_add(1, Ordering::SeqCst);
+    }
+
+    fn decides<A: Allocator + Clone, R: Wait>(
+        &self,
+        _rt: &R,
+        _alloc: &A,
+        _setup: &Setup<A>,
+        _request: &Message<A>,
+        _source: Hop,
+        _now: u64,
+    ) -> Result<Decision<A>, AllocError> {
+        Ok(Decision::Opens)
+    }
+
+    fn registers<A: Allocator + Clone, R: Wait>(
+        &self,
+        _rt: &R,
+        _alloc: &A,
+        _setup: &Setup<A>,
+        _request: &Message<A>,
+        _source: Hop,
+        _now: u64,
+    ) -> Result<Decision<A>, AllocError> {
+        Ok(Decision::Opens)
     }
 }
 

@@ -13,6 +13,8 @@ mod calls;
 #[cfg(test)]
 mod carrying;
 #[cfg(test)]
+mod decisions;
+#[cfg(test)]
 mod failing;
 #[cfg(test)]
 mod holds;

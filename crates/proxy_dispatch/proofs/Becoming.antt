@@ -1,5 +1,5 @@
 -- What becomes of a message, put together.
-use Rattle.proxy_dispatch.proofs.Common.{◌≡◌, ◌∙◌, [], ◌∷◌, ℕ, List, Option, Some, None, Result, Ok, Err, refl, sym, subst, ap, inl, inr, Admits, MessageText, Hop, Own, ViaFault, request_key, Setup, IsAdmitted, RequestKind, Passes, Look, Handled, Datagram, Call}
+use Rattle.proxy_dispatch.proofs.Common.{◌≡◌, ◌∙◌, [], ◌∷◌, ℕ, List, Option, Some, None, Result, Ok, Err, refl, sym, subst, ap, inl, inr, Serving, MessageText, Hop, Own, ViaFault, request_key, Setup, IsAdmitted, RequestKind, Passes, Look, Handled, Datagram, Call}
 use Rattle.std.proofs.Common.{Bool, true, false, ◌++◌}
 use Rattle.std.specs.Prelude.{IfOk, option_map}
 use Rattle.sip_via.specs.OwnVia.{over}
@@ -24,9 +24,10 @@ use Rattle.proxy_routing.specs.Unrouted.{IfRejected, IsTurnedBack, fault_of}
 use Rattle.fork_call.specs.Opening.{Opens}
 use Rattle.proxy_dispatch.specs.Asking.{asks_service}
 use Rattle.proxy_dispatch.specs.Admitting.{opener_of}
-use Rattle.proxy_dispatch.specs.Becomes.{AdmittedBecomes, AskedBecomes, Becomes, BecomesBy, KeyBecomes, LooksFor, MessageBecomes, NewBecomes, RequestBecomes, UnknownBecomes}
+use Rattle.proxy_dispatch.specs.Becomes.{AdmittedBecomes, AskedBecomes, Becomes, BecomesBy, KeyBecomes, LooksFor, MessageBecomes, NewBecomes, OpenerBecomes, RegisteringBecomes, RequestBecomes, UnknownBecomes}
 use Rattle.proxy_dispatch.specs.Looks.{Found, Shows, ShowsAll}
 use Rattle.proxy_dispatch.specs.declared.admission.Opener.{Opener}
+use Rattle.proxy_dispatch.specs.declared.admission.Opener.TheVariants as openers
 use Rattle.proxy_dispatch.specs.inner.Becomes.{ToldBecomes}
 use Rattle.proxy_dispatch.specs.Passing.{GoesOn}
 use Rattle.proxy_dispatch.specs.Purpose.{purpose_of}
@@ -76,33 +77,56 @@ prepared_so setup m source pending opens =
 
 -- ---- a request that is admitted
 
-pub told_so : (asks : Bool) (setup : Setup) (m : MessageText) (source : Hop) (now : ℕ) (key : List ℕ) (looks : List Look) (handled : Handled) (sent : Option Datagram) (b : Bool)
-    → asks ≡ b → AdmittedBecomes b setup m source now key looks handled sent → AdmittedBecomes asks setup m source now key looks handled sent
-told_so asks setup m source now key looks handled sent b e h =
-    let P : Bool → Type 0 = λ x. AdmittedBecomes x setup m source now key looks handled sent in
+pub told_so : (asks : Bool) (serving : Serving) (setup : Setup) (m : MessageText) (source : Hop) (now : ℕ) (key : List ℕ) (looks : List Look) (handled : Handled) (sent : Option Datagram) (b : Bool)
+    → asks ≡ b → AdmittedBecomes b serving setup m source now key looks handled sent → AdmittedBecomes asks serving setup m source now key looks handled sent
+told_so asks serving setup m source now key looks handled sent b e h =
+    let P : Bool → Type 0 = λ x. AdmittedBecomes x serving setup m source now key looks handled sent in
     subst P (sym e) h
 
-pub asked_so : (admits : Admits) (setup : Setup) (m : MessageText) (source : Hop) (now : ℕ) (key : List ℕ) (opener : Opener) (said b : Bool) (looks : List Look) (handled : Handled) (sent : Option Datagram)
-    → admits opener said → opener ≡ opener_of m → said ≡ b → AskedBecomes b setup m source now key looks handled sent
-    → NewBecomes admits setup m source now (Some key) looks handled sent
-asked_so admits setup m source now key opener said b looks handled sent h e f becomes =
-    let P : Opener → Type 0 = λ x. admits x said in
-    let Q : Bool → Type 0 = λ x. admits (opener_of m) x in
+-- by which request it is
+pub opener_at : (serving : Serving) (setup : Setup) (m : MessageText) (source : Hop) (now : ℕ) (key : List ℕ) (looks : List Look) (handled : Handled) (sent : Option Datagram) (opener other : Opener)
+    → opener ≡ other → OpenerBecomes opener serving setup m source now key looks handled sent → OpenerBecomes other serving setup m source now key looks handled sent
+opener_at serving setup m source now key looks handled sent opener other e h =
+    let P : Opener → Type 0 = λ x. OpenerBecomes x serving setup m source now key looks handled sent in
+    subst P e h
+
+-- any but a REGISTER for the domain
+pub not_registering : (serving : Serving) (setup : Setup) (m : MessageText) (source : Hop) (now : ℕ) (key : List ℕ) (looks : List Look) (handled : Handled) (sent : Option Datagram) (opener : Opener)
+    → (opener ≡ openers.Registering → ⊥) → AdmittedBecomes (asks_service setup m) serving setup m source now key looks handled sent
+    → OpenerBecomes opener serving setup m source now key looks handled sent
+not_registering serving setup m source now key looks handled sent openers.OutsideDialog other h = h
+not_registering serving setup m source now key looks handled sent openers.WithinDialog other h = h
+not_registering serving setup m source now key looks handled sent openers.Registering other h = absurd (other refl)
+
+-- by its top Via value and by what it asks for
+pub registering_so : (serving : Serving) (setup : Setup) (m : MessageText) (source : Hop) (now : ℕ) (key : List ℕ) (looks : List Look) (handled : Handled) (sent : Option Datagram) (via v asks a : Bool)
+    → via ≡ v → asks ≡ a → RegisteringBecomes v a serving setup m source now key looks handled sent → RegisteringBecomes via asks serving setup m source now key looks handled sent
+registering_so serving setup m source now key looks handled sent via v asks a e f h =
+    let P : Bool → Type 0 = λ x. RegisteringBecomes x asks serving setup m source now key looks handled sent in
+    let Q : Bool → Type 0 = λ x. RegisteringBecomes v x serving setup m source now key looks handled sent in
+    subst P (sym e) (subst Q (sym f) h)
+
+pub asked_so : (serving : Serving) (setup : Setup) (m : MessageText) (source : Hop) (now : ℕ) (key : List ℕ) (opener : Opener) (said b : Bool) (looks : List Look) (handled : Handled) (sent : Option Datagram)
+    → serving.admits opener said → opener ≡ opener_of setup m → said ≡ b → AskedBecomes b serving setup m source now key looks handled sent
+    → NewBecomes serving setup m source now (Some key) looks handled sent
+asked_so serving setup m source now key opener said b looks handled sent h e f becomes =
+    let P : Opener → Type 0 = λ x. serving.admits x said in
+    let Q : Bool → Type 0 = λ x. serving.admits (opener_of setup m) x in
     (b, subst Q f (subst P e h), becomes)
 
 -- ---- a request
 
-pub purpose_at : (admits : Admits) (setup : Setup) (m : MessageText) (source : Hop) (now : ℕ) (purpose p : RequestKind) (looks : List Look) (handled : Handled) (sent : Option Datagram)
-    → purpose ≡ p → UnknownBecomes admits setup m source now p looks handled sent → UnknownBecomes admits setup m source now purpose looks handled sent
-purpose_at admits setup m source now purpose p looks handled sent e h =
-    let P : RequestKind → Type 0 = λ x. UnknownBecomes admits setup m source now x looks handled sent in
+pub purpose_at : (serving : Serving) (setup : Setup) (m : MessageText) (source : Hop) (now : ℕ) (purpose p : RequestKind) (looks : List Look) (handled : Handled) (sent : Option Datagram)
+    → purpose ≡ p → UnknownBecomes serving setup m source now p looks handled sent → UnknownBecomes serving setup m source now purpose looks handled sent
+purpose_at serving setup m source now purpose p looks handled sent e h =
+    let P : RequestKind → Type 0 = λ x. UnknownBecomes serving setup m source now x looks handled sent in
     subst P (sym e) h
 
 -- of a request whose key is this one
-pub new_at : (admits : Admits) (setup : Setup) (m : MessageText) (source : Hop) (now : ℕ) (key other : Option (List ℕ)) (looks : List Look) (handled : Handled) (sent : Option Datagram)
-    → key ≡ other → NewBecomes admits setup m source now key looks handled sent → NewBecomes admits setup m source now other looks handled sent
-new_at admits setup m source now key other looks handled sent e h =
-    let P : Option (List ℕ) → Type 0 = λ x. NewBecomes admits setup m source now x looks handled sent in
+pub new_at : (serving : Serving) (setup : Setup) (m : MessageText) (source : Hop) (now : ℕ) (key other : Option (List ℕ)) (looks : List Look) (handled : Handled) (sent : Option Datagram)
+    → key ≡ other → NewBecomes serving setup m source now key looks handled sent → NewBecomes serving setup m source now other looks handled sent
+new_at serving setup m source now key other looks handled sent e h =
+    let P : Option (List ℕ) → Type 0 = λ x. NewBecomes serving setup m source now x looks handled sent in
     subst P e h
 
 -- the text of a key that there is
@@ -119,30 +143,30 @@ looked own key e number looks =
     let P : Option (List ℕ) → Type 0 = λ x. LooksFor x number (Found key number ∷ looks) looks in
     subst P (sym e) refl
 
-module _ {T : Type 0} (shows : Shows T) (admits : Admits) (setup : Setup) (m : MessageText) (source : Hop) (now : ℕ) (purpose : RequestKind) (handled : Handled) (sent : Option Datagram) where
+module _ {T : Type 0} (shows : Shows T) (serving : Serving) (setup : Setup) (m : MessageText) (source : Hop) (now : ℕ) (purpose : RequestKind) (handled : Handled) (sent : Option Datagram) where
   -- a request without a key
-  pub unkeyed : (old new : T) → request_key m ≡ None → Sees shows old new (λ looks. UnknownBecomes admits setup m source now purpose looks handled sent)
-      → Sees shows old new (λ looks. RequestBecomes admits setup m source now purpose looks handled sent)
+  pub unkeyed : (old new : T) → request_key m ≡ None → Sees shows old new (λ looks. UnknownBecomes serving setup m source now purpose looks handled sent)
+      → Sees shows old new (λ looks. RequestBecomes serving setup m source now purpose looks handled sent)
   unkeyed old new e (looks, seen, h) = (looks, seen, (None, looks, unlooked (request_key m) e looks, h))
 
   -- one that is looked for
   pub keyed : (old mid new : T) (key : List ℕ) (found number : Option ℕ) → request_key m ≡ Some key → shows old (Found key found) mid → found ≡ number
-      → Sees shows mid new (λ looks. KeyBecomes admits setup m source now purpose number looks handled sent)
-      → Sees shows old new (λ looks. RequestBecomes admits setup m source now purpose looks handled sent)
+      → Sees shows mid new (λ looks. KeyBecomes serving setup m source now purpose number looks handled sent)
+      → Sees shows old new (λ looks. RequestBecomes serving setup m source now purpose looks handled sent)
   keyed old mid new key found number e show f (looks, seen, h) =
       let P : Option ℕ → Type 0 = λ x. shows old (Found key x) mid in
       (Found key number ∷ looks, (mid, subst P f show, seen), (number, looks, looked (request_key m) key e number looks, h))
 
-pub message_so : (admits : Admits) (setup : Setup) (m : MessageText) (source : Hop) (now : ℕ) (looks : List Look) (handled : Handled) (sent : Option Datagram) (p : Option RequestKind)
-    → purpose_of m.start ≡ p → BecomesBy admits setup m source now p looks handled sent → MessageBecomes admits setup m source now looks handled sent
-message_so admits setup m source now looks handled sent p e h =
-    let P : Option RequestKind → Type 0 = λ x. BecomesBy admits setup m source now x looks handled sent in
+pub message_so : (serving : Serving) (setup : Setup) (m : MessageText) (source : Hop) (now : ℕ) (looks : List Look) (handled : Handled) (sent : Option Datagram) (p : Option RequestKind)
+    → purpose_of m.start ≡ p → BecomesBy serving setup m source now p looks handled sent → MessageBecomes serving setup m source now looks handled sent
+message_so serving setup m source now looks handled sent p e h =
+    let P : Option RequestKind → Type 0 = λ x. BecomesBy serving setup m source now x looks handled sent in
     subst P (sym e) h
 
 -- ---- a text that is no message
 
-pub unread_becomes : (admits : Admits) (setup : Setup) (text : List ℕ) (source : Hop) (now : ℕ) (handled : Handled) (sent : Option Datagram)
+pub unread_becomes : (serving : Serving) (setup : Setup) (text : List ℕ) (source : Hop) (now : ℕ) (handled : Handled) (sent : Option Datagram)
     → ((t : List ℕ) (f : Fault) → read_at t ≡ Err f → IsRefused t f) → (seen : Option Fault) → FailsAs seen (read_at text)
-    → ToldBecomes seen source handled sent → Becomes admits setup text source now [] handled sent
-unread_becomes admits setup text source now handled sent law None h b = absurd b
-unread_becomes admits setup text source now handled sent law (Some f) h b = inr (f, law text f h, refl, b)
+    → ToldBecomes seen source handled sent → Becomes serving setup text source now [] handled sent
+unread_becomes serving setup text source now handled sent law None h b = absurd b
+unread_becomes serving setup text source now handled sent law (Some f) h b = inr (f, law text f h, refl, b)

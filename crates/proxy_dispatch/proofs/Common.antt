@@ -1,7 +1,7 @@
 -- The names that most proofs of this crate cite, passed on from one place. Declares nothing.
 pub use Rattle.std.proofs.Common.{Err, List, None, Ok, Option, Result, Some, [], ap, inl, inr, refl, subst, sym, ℕ, ◌∙◌, ◌≡◌, ◌∷◌}
 pub use Rattle.std.proofs.lemmas.Result.{IfOk-weaker}
-pub use Rattle.proxy_dispatch.specs.Admitting.{Admits}
+pub use Rattle.proxy_dispatch.specs.Admitting.{Serving}
 pub use Rattle.proxy_dispatch.specs.Looks.{Look}
 pub use Rattle.proxy_dispatch.specs.Passing.{Passes}
 pub use Rattle.proxy_dispatch.specs.declared.datagrams.Handled.{Handled}

@@ -10,8 +10,7 @@ use Rattle.sip_uri.specs.declared.hop.Hop.{Hop}
 use Rattle.sip_uri.specs.Uri.{Uri}
 use Rattle.sip_via.specs.ViaParts.{or_empty}
 use Rattle.authentication.specs.Answer.{Answer}
-use Rattle.proxy_config.specs.Setup.{Location, Setup, Way}
-use Rattle.proxy_config.specs.declared.dialog_token.DialogToken.{DialogToken}
+use Rattle.proxy_config.specs.Setup.{Setup}
 use Rattle.proxy_routing.specs.Admission.{target_uri}
 use Rattle.proxy_routing.specs.Targets.{is_domain}
 use Rattle.proxy_dispatch.specs.declared.admission.Opener.{Opener}
@@ -39,22 +38,12 @@ opener_of setup m = if is_for_registrar setup m then Registering else opener_by 
 -- ---- what is decided of it
 
 pub data Decision : Type 0 where
-  -- it is opened by this setup
+  -- it is opened by this setup: the one that stands, or one of the moment
   Opens : Setup → Decision
   -- it opens nothing, and is answered so
   Answers : Answer → Decision
   -- it opens nothing, and another answers it, or nobody
   Leaves : Decision
-
--- a setup of a moment differs from the one that stands in where requests go, and in the token of a dialog
-abbrev pub IsOfMoment : (setup moment : Setup) → Type 0
-IsOfMoment setup moment =
-    (locations : List Location) × (ways : List Way) × (token : Option DialogToken) × (moment ≡ record setup { locations = locations; ways = ways; token = token })
-
-abbrev pub KeepsSetup : Setup → Decision → Type 0
-KeepsSetup setup (Opens moment) = IsOfMoment setup moment
-KeepsSetup setup (Answers answer) = Unit {0}
-KeepsSetup setup Leaves = Unit {0}
 
 -- what is said of requests: which may open calls now; what is decided of one that may, which came from there then; and of a REGISTER for the
 -- domain

@@ -21,11 +21,12 @@ use Rattle.call_model.specs.SeenTaken.{seen_taken}
 use Rattle.call_model.specs.Take.{Full}
 use Rattle.call_model.specs.declared.taken.Taken.{Taken}
 use Rattle.proxy_routing.specs.declared.fault.RequestRejection.{RequestRejection}
-use Rattle.proxy_routing.specs.Admission.{IsAdmitted, IsPrepared}
+use Rattle.proxy_routing.specs.Admission.{IsPrepared}
 use Rattle.proxy_routing.specs.Refusing.{status_of_fault}
 use Rattle.call_state.specs.Matching.{BelongsToNone}
 use Rattle.fork_call.specs.Opening as opening
 use Rattle.fork_call.specs.Opening.{Refuses}
+use Rattle.fork_call.specs.Prepared.{IsPreparedAs, Prepared, is_found_first}
 use Rattle.fork_call.specs.Takes.{Takes}
 use Rattle.proxy_dispatch.specs.declared.datagrams.Handled.{Handled}
 use Rattle.proxy_dispatch.specs.declared.datagrams.Handled.TheVariants.{Dropped, Absorbed, Answered, TurnedAway, Forwarded, Opened, Delivered, Left}
@@ -154,16 +155,21 @@ pub record IsTurnedAway (m : MessageText) (source : Hop) (looks : List Look) (ha
 abbrev pub IsAnsweredWith : MessageText → Hop → Answer → Handled → Option Datagram → Type 0
 IsAnsweredWith m source answer handled sent = (handled ≡ Answered (code_of answer.status)) × (sent ≡ Some (answer_of m source answer.status answer.lines))
 
--- it opens a call by the setup of the moment, or is answered, or left to another; where one of the steps of section 16.3 stops it, that holds
--- whatever is decided
+-- one of the first five steps of section 16.3 stops it, and it is answered by that, whatever is decided
+abbrev pub IsStopped : Setup → MessageText → Hop → List Look → Handled → Option Datagram → Type 0
+IsStopped setup m source looks handled sent = (rejected : IsRejected setup m source looks handled sent) × (is_found_first rejected.fault ≡ true)
+
+-- or none does
+abbrev pub PassesFirst : Setup → MessageText → Hop → Type 0
+PassesFirst setup m source = (prepared : Prepared) × IsPreparedAs setup m source prepared
+
+-- it opens a call by this setup, or is answered, or left to another
 abbrev pub DecidedBecomes : Decision → Setup → MessageText → Hop → ℕ → List ℕ → List Look → Handled → Option Datagram → Type 0
 DecidedBecomes (Opens moment) setup m source now key looks handled sent = OpeningBecomes moment m source now key looks handled sent
 DecidedBecomes (Answers answer) setup m source now key looks handled sent =
-    IsRejected setup m source looks handled sent
-    ⊎ ((looks ≡ []) × ((request : MessageText) × IsAdmitted setup m source request) × IsAnsweredWith m source answer handled sent)
+    IsStopped setup m source looks handled sent ⊎ ((looks ≡ []) × PassesFirst setup m source × IsAnsweredWith m source answer handled sent)
 DecidedBecomes Leaves setup m source now key looks handled sent =
-    IsRejected setup m source looks handled sent
-    ⊎ ((looks ≡ []) × ((request : MessageText) × IsAdmitted setup m source request) × (handled ≡ Left) × (sent ≡ None))
+    IsStopped setup m source looks handled sent ⊎ ((looks ≡ []) × PassesFirst setup m source × (handled ≡ Left) × (sent ≡ None))
 
 abbrev pub AdmittedBecomes : (asks : Bool) → Serving → Setup → MessageText → Hop → ℕ → List ℕ → List Look → Handled → Option Datagram → Type 0
 AdmittedBecomes true serving setup m source now key looks handled sent = IsTold m source looks handled sent

@@ -1,7 +1,7 @@
 //! Which requests may open calls, and what is decided of them.
 ghost use Rattle.std.specs.Prelude.{◌≡◌, IfOk, true};
 ghost use Rattle.proxy_config.specs.Setup as spec;
-ghost use Rattle.proxy_dispatch.specs.Admitting.{KeepsSetup, Serving, is_for_registrar, open_all, opener_of};
+ghost use Rattle.proxy_dispatch.specs.Admitting.{Serving, is_for_registrar, open_all, opener_of};
 ghost use Rattle.proxy_dispatch.specs.SeenDecision.{seen_decision};
 
 use authentication::OwnAnswer;
@@ -29,7 +29,8 @@ pub enum Opener {
 pub enum Decision<A: Allocator> {
     /// It is opened by the setup as it stands.
     Opens,
-    /// It is opened by this setup, which differs from the one that stands in where requests go, and in the token of a dialog.
+    /// It is opened by this setup: that of the moment, in which the locations of a user may be others, the ways, and the token of a
+    /// dialog.
     OpensBy(Setup<A>),
     /// It opens nothing, and is answered so.
     Answers(OwnAnswer<A>),
@@ -61,18 +62,14 @@ pub trait Admission {
     /// Only where the allocator refuses.
     fn decides<A: Allocator + Clone, R: Wait>(
         &self,
-        _rt: &R,
-        _alloc: &A,
+        rt: &R,
+        alloc: &A,
         setup: &Setup<A>,
         request: &Message<A>,
         source: Hop,
         now: u64,
     ) -> Result<Decision<A>, AllocError>
-        ensures decided { IfOk result (λ decision. (Self.serving self.now).decides setup.now request.now source now (seen_decision setup.now decision)) }
-        ensures setup { IfOk result (λ decision. KeepsSetup setup.now (seen_decision setup.now decision)) }
-    {
-        Ok(Decision::Opens)
-    }
+        ensures { IfOk result (λ decision. (Self.serving self.now).decides setup.now request.now source now (seen_decision setup.now decision)) };
 
     /// The same of a REGISTER for the domain.
     ///
@@ -81,21 +78,17 @@ pub trait Admission {
     /// Only where the allocator refuses.
     fn registers<A: Allocator + Clone, R: Wait>(
         &self,
-        _rt: &R,
-        _alloc: &A,
+        rt: &R,
+        alloc: &A,
         setup: &Setup<A>,
         request: &Message<A>,
         source: Hop,
         now: u64,
     ) -> Result<Decision<A>, AllocError>
-        ensures decided { IfOk result (λ decision. (Self.serving self.now).registers setup.now request.now source now (seen_decision setup.now decision)) }
-        ensures setup { IfOk result (λ decision. KeepsSetup setup.now (seen_decision setup.now decision)) }
-    {
-        Ok(Decision::Opens)
-    }
+        ensures { IfOk result (λ decision. (Self.serving self.now).registers setup.now request.now source now (seen_decision setup.now decision)) };
 }
 
-/// Admits every request.
+/// Admits every request, and opens each by the setup as it stands.
 #[derive(Clone, Copy, PartialEq, Eq, Debug)]
 pub struct Unlimited;
 
@@ -107,6 +100,30 @@ impl Admission for Unlimited {
     }
 
     fn release<R: Wait>(&self, _rt: &R) {}
+
+    fn decides<A: Allocator + Clone, R: Wait>(
+        &self,
+        _rt: &R,
+        _alloc: &A,
+        _setup: &Setup<A>,
+        _request: &Message<A>,
+        _source: Hop,
+        _now: u64,
+    ) -> Result<Decision<A>, AllocError> {
+        Ok(Decision::Opens)
+    }
+
+    fn registers<A: Allocator + Clone, R: Wait>(
+        &self,
+        _rt: &R,
+        _alloc: &A,
+        _setup: &Setup<A>,
+        _request: &Message<A>,
+        _source: Hop,
+        _now: u64,
+    ) -> Result<Decision<A>, AllocError> {
+        Ok(Decision::Opens)
+    }
 }
 
 /// Whether a request is a REGISTER for the domain, and the proxy is a service (RFC 3261 section 10.2).

@@ -14,7 +14,7 @@ ghost use Rattle.proxy_routing.specs.Admission.{IsPrepared};
 ghost use Rattle.proxy_routing.specs.Refusing.{status_of_fault};
 ghost use Rattle.fork_call.specs.Opening.{IsRefusedFor};
 ghost use Rattle.proxy_dispatch.specs.declared.datagrams.Handled.TheVariants as handled;
-ghost use Rattle.proxy_dispatch.specs.Becomes.{IsRejected};
+ghost use Rattle.proxy_dispatch.specs.inner.Becomes.{IsRejectedBy};
 ghost use Rattle.proxy_dispatch.specs.Sent.{answer_of, answer_to, capabilities_to, unavailable_to};
 ghost use Rattle.proxy_dispatch.specs.inner.Sent.{seen_sent};
 
@@ -233,7 +233,7 @@ pub(crate) fn rejected<A: Allocator + Clone>(
 ) -> Result<Outcome<A>, AllocError>
     requires { fault ≢ RequestRejection.NoMemory }
     ensures { (setup : Setup) (m : MessageText) → IsRefusedFor setup m source fault request
-        → IfOk result (λ outcome. IsRejected setup m source [] outcome.handled (seen_sent outcome.datagram)) }
+        → IfOk result (λ outcome. IsRejectedBy setup m source fault [] outcome.handled (seen_sent outcome.datagram)) }
 {
     stripping_keeps_answers();
     stripping_keeps_the_rest();

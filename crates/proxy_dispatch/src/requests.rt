@@ -1,18 +1,18 @@
 //! Requests: known by their keys, or new.
-ghost use Rattle.std.specs.Prelude.{◌≡◌, ℕ, false, List, IfOk, OnErr, Some};
+ghost use Rattle.std.specs.Prelude.{◌≡◌, ℕ, false, List, [], IfErr, IfOk, OnErr, Some};
 ghost use Rattle.std.specs.Option.{option_map};
 ghost use Rattle.sip_build.specs.Forwarding.{is_request};
 ghost use Rattle.sip_route.specs.RequestKey.{request_key};
 ghost use Rattle.call_model.specs.Call.{numbered};
-ghost use Rattle.fork_call.specs.Opening.{Opens};
+ghost use Rattle.fork_call.specs.Opening.{IsOpenable, Opens};
 ghost use Rattle.proxy_config.specs.Setup as spec;
 ghost use Rattle.sip_text.specs.Text.{MessageText};
 ghost use Rattle.proxy_dispatch.specs.declared.purpose.RequestKind.TheVariants as purposes;
 ghost use Rattle.fork_call.specs.Prepared.{IsPreparedAs};
 ghost use Rattle.proxy_routing.specs.Admission.{asks_extension, has_via};
-ghost use Rattle.proxy_dispatch.specs.Admitting.{KeepsSetup};
+ghost use Rattle.proxy_dispatch.specs.Admitting as decisions;
 ghost use Rattle.proxy_dispatch.specs.SeenDecision.{seen_decision};
-ghost use Rattle.proxy_dispatch.specs.Becomes.{AdmittedBecomes, DecidedBecomes, NewBecomes, OpenerBecomes, OpeningBecomes, RegisteringBecomes, RequestBecomes, UnknownBecomes};
+ghost use Rattle.proxy_dispatch.specs.Becomes.{AdmittedBecomes, DecidedBecomes, IsStopped, NewBecomes, OpenerBecomes, OpeningBecomes, RegisteringBecomes, RequestBecomes, UnknownBecomes};
 ghost use Rattle.proxy_dispatch.specs.Looks.{Look, shown, ShowsAll};
 ghost use Rattle.proxy_dispatch.specs.Purpose.{purpose_of};
 ghost use Rattle.proxy_dispatch.specs.inner.Becomes.{is_opened};
@@ -28,6 +28,7 @@ use crate::delivery::deliver;
 use crate::outcome::Outcome;
 use crate::purpose::RequestKind;
 use crate::received::ReceivedMessage;
+use authentication::OwnAnswer;
 use call_table::PendingFault;
 use fork_call::{OpeningRequest, PendingCall, PreparedRequest, Setup, Unrouted, prepare};
 use proxy_routing::{asks_extension, has_via};
@@ -76,23 +77,23 @@ fn put<A: Allocator + Clone, R: Wait>(
     }
 }
 
-/// What becomes of a request that was prepared, which opens a call by this setup or is answered with the status that tells why not. The
-/// call is prepared before the keys are locked, so no other thread waits for that.
+/// What becomes of a request that opens a call by this setup, or is answered with the status that tells why not. The call is prepared
+/// before the keys are locked, so no other thread waits for that.
 fn opened_by<A: Allocator + Clone, R: Wait>(
     rt: &R,
     table: &mut SharedCalls<'_, A>,
     setup: &Setup<A>,
     key: Vec<u8, A>,
-    alloc: A,
-    prepared: PreparedRequest<A>,
-    now: u64,
+    opening: OpeningRequest<A>,
 ) -> Result<Outcome<A>, AllocError>
-    ensures { (m : MessageText) → IsPreparedAs setup.now m prepared.source prepared
-        → IfOk result (λ outcome. (looks : List Look) × ShowsAll shown table.old looks table.new
-        × OpeningBecomes setup.now m prepared.source now key.items looks outcome.handled (seen_sent outcome.datagram)) }
+    requires { IsOpenable opening.request.start }
+    ensures { IfOk result (λ outcome. (looks : List Look) × ShowsAll shown table.old looks table.new
+        × OpeningBecomes setup.now opening.request opening.source opening.now key.items looks outcome.handled (seen_sent outcome.datagram)) }
 {
-    let source = prepared.source();
-    match PendingCall::of(setup, alloc.clone()?, prepared) {
+    let alloc = opening.alloc.clone()?;
+    let source = opening.source;
+    let now = opening.now;
+    match PendingCall::new(setup, opening) {
         Ok(pending) => put(rt, table, key, pending, source, now),
         Err(why) => match why {
             Unrouted::Rejected(fault, request) => rejected(alloc, request, source, fault),
@@ -101,29 +102,79 @@ fn opened_by<A: Allocator + Clone, R: Wait>(
     }
 }
 
-/// What becomes of a request that was prepared, and of which this is decided.
+/// A request as it was prepared, or what becomes of it where one of the first five steps of RFC 3261 section 16.3 stops it.
+fn prepared<A: Allocator + Clone>(
+    setup: &Setup<A>,
+    opening: OpeningRequest<A>,
+) -> Result<Result<PreparedRequest<A>, Outcome<A>>, AllocError>
+    requires { IsOpenable opening.request.start }
+    ensures passed { IfOk result (λ r. IfOk r (IsPreparedAs setup.now opening.request opening.source)) }
+    ensures stopped { IfOk result (λ r. IfErr r (λ outcome.
+        IsStopped setup.now opening.request opening.source [] outcome.handled (seen_sent outcome.datagram))) }
+{
+    let alloc = opening.alloc.clone()?;
+    let source = opening.source;
+    match prepare(setup, opening) {
+        Ok(prepared) => Ok(Ok(prepared)),
+        Err(why) => match why {
+            Unrouted::Rejected(fault, request) => Ok(Err(rejected(alloc, request, source, fault)?)),
+            Unrouted::NoMemory => Err(AllocError),
+        },
+    }
+}
+
+/// What becomes of a request of which it is decided that it is answered so.
+fn refused<A: Allocator + Clone>(
+    setup: &Setup<A>,
+    opening: OpeningRequest<A>,
+    answer: &OwnAnswer<A>,
+) -> Result<Outcome<A>, AllocError>
+    requires { IsOpenable opening.request.start }
+    ensures { IfOk result (λ outcome. DecidedBecomes (decisions.Answers answer.now) setup.now opening.request opening.source opening.now []
+        [] outcome.handled (seen_sent outcome.datagram)) }
+{
+    let alloc = opening.alloc.clone()?;
+    let source = opening.source;
+    match prepared(setup, opening)? {
+        Ok(prepared) => prepared_answer(alloc, prepared.request(), source, answer),
+        Err(outcome) => Ok(outcome),
+    }
+}
+
+/// What becomes of a request of which it is decided that another answers it, or nobody.
+fn left<A: Allocator + Clone>(
+    setup: &Setup<A>,
+    opening: OpeningRequest<A>,
+) -> Result<Outcome<A>, AllocError>
+    requires { IsOpenable opening.request.start }
+    ensures { IfOk result (λ outcome. DecidedBecomes decisions.Leaves setup.now opening.request opening.source opening.now []
+        [] outcome.handled (seen_sent outcome.datagram)) }
+{
+    match prepared(setup, opening)? {
+        Ok(_) => Ok(Outcome::silent(Handled::Left)),
+        Err(outcome) => Ok(outcome),
+    }
+}
+
+/// What becomes of a request of which this is decided.
 fn decided<A: Allocator + Clone, R: Wait>(
     rt: &R,
     table: &mut SharedCalls<'_, A>,
     setup: &Setup<A>,
     key: Vec<u8, A>,
-    alloc: A,
-    prepared: PreparedRequest<A>,
-    now: u64,
+    opening: OpeningRequest<A>,
     decision: Decision<A>,
 ) -> Result<Outcome<A>, AllocError>
-    requires { KeepsSetup setup.now (seen_decision setup.now decision) }
-    ensures { (m : MessageText) → IsPreparedAs setup.now m prepared.source prepared
-        → IfOk result (λ outcome. (looks : List Look) × ShowsAll shown table.old looks table.new
-        × DecidedBecomes (seen_decision setup.now decision) setup.now m prepared.source now key.items looks outcome.handled (seen_sent outcome.datagram)) }
+    requires { IsOpenable opening.request.start }
+    ensures { IfOk result (λ outcome. (looks : List Look) × ShowsAll shown table.old looks table.new
+        × DecidedBecomes (seen_decision setup.now decision) setup.now opening.request opening.source opening.now key.items
+        looks outcome.handled (seen_sent outcome.datagram)) }
 {
     match decision {
-        Decision::Opens => opened_by(rt, table, setup, key, alloc, prepared, now),
-        Decision::OpensBy(moment) => opened_by(rt, table, &moment, key, alloc, prepared, now),
-        Decision::Answers(answer) => {
-            prepared_answer(alloc, prepared.request(), prepared.source(), &answer)
-        }
-        Decision::Leaves => Ok(Outcome::silent(Handled::Left)),
+        Decision::Opens => opened_by(rt, table, setup, key, opening),
+        Decision::OpensBy(moment) => opened_by(rt, table, &moment, key, opening),
+        Decision::Answers(answer) => refused(setup, opening, &answer),
+        Decision::Leaves => left(setup, opening),
     }
 }
 
@@ -151,18 +202,12 @@ fn opened<A: Allocator + Clone, N: Admission, R: Wait>(
     } = received;
     let decision = admission.decides(rt, &alloc, setup, &request, source, now)?;
     let opening = OpeningRequest {
-        alloc: alloc.clone()?,
+        alloc,
         request,
         source,
         now,
     };
-    match prepare(setup, opening) {
-        Ok(prepared) => decided(rt, table, setup, key, alloc, prepared, now, decision),
-        Err(why) => match why {
-            Unrouted::Rejected(fault, request) => rejected(alloc, request, source, fault),
-            Unrouted::NoMemory => Err(AllocError),
-        },
-    }
+    decided(rt, table, setup, key, opening, decision)
 }
 
 /// What becomes of a REGISTER for the domain (RFC 3261 section 10.3).

@@ -44,6 +44,8 @@ impl<A: Allocator + Copy> Service<A> {
             Handled::Forwarded => self.counts.datagrams.forwarded.add(1),
             Handled::Dropped => self.counts.datagrams.dropped.add(1),
             Handled::Absorbed => self.counts.datagrams.absorbed.add(1),
+            // it is counted by whoever answers it
+            Handled::Left => {}
         }
     }
 

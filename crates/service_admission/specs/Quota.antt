@@ -7,4 +7,5 @@ use Rattle.proxy_dispatch.specs.declared.admission.Opener.TheVariants as opener
 -- for how many calls there is room where the next one is opened by such a request
 abbrev pub limit : Opener → ℕ → ℕ
 limit opener.OutsideDialog most = most
+limit opener.Registering most = most
 limit opener.WithinDialog most = most_within_dialog most

@@ -65,7 +65,7 @@ impl Lifetime {
     /// Whether it opens calls for such requests: those within dialogs go on until the end.
     pub fn opens(&self, opener: Opener) -> bool {
         match opener {
-            Opener::OutsideDialog => self.is_in(ServiceState::Serving),
+            Opener::OutsideDialog | Opener::Registering => self.is_in(ServiceState::Serving),
             Opener::WithinDialog => !self.is_in(ServiceState::Ended),
         }
     }

@@ -6,7 +6,11 @@ ghost use Rattle.service_admission.specs.Quota.{limit};
 
 use crate::lifetime::Lifetime;
 use crate::places::CallQuota;
-use proxy_dispatch::{Admission, Opener};
+use fork_call::Setup;
+use proxy_dispatch::{Admission, Decision, Opener};
+use sip_text::Message;
+use sip_uri::Hop;
+use std::alloc::{AllocError, Allocator};
 use std::sync::atomic::{AtomicU64, Ordering};
 use std::sync::{Mutex, Wait};
 
@@ -19,7 +23,7 @@ fn keep_for(places: &mut CallQuota, opener: Opener) -> bool
     ensures full { OnFalse result ((limit opener places.old.most ≤ places.old.taken) × (places.new ≡ places.old)) }
 {
     match opener {
-        Opener::OutsideDialog => places.keep(),
+        Opener::OutsideDialog | Opener::Registering => places.keep(),
         Opener::WithinDialog => places.keep_within_dialog(),
     }
 }
@@ -107,5 +111,29 @@ impl Admission for QuotaAt<'_> {
 
     fn release<R: Wait>(&self, rt: &R) {
         self.quota.release(rt);
+    }
+
+    fn decides<A: Allocator + Clone, R: Wait>(
+        &self,
+        _rt: &R,
+        _alloc: &A,
+        _setup: &Setup<A>,
+        _request: &Message<A>,
+        _source: Hop,
+        _now: u64,
+    ) -> Result<Decision<A>, AllocError> {
+        Ok(Decision::Opens)
+    }
+
+    fn registers<A: Allocator + Clone, R: Wait>(
+        &self,
+        _rt: &R,
+        _alloc: &A,
+        _setup: &Setup<A>,
+        _request: &Message<A>,
+        _source: Hop,
+        _now: u64,
+    ) -> Result<Decision<A>, AllocError> {
+        Ok(Decision::Opens)
     }
 }

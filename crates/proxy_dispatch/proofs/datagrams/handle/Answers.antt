@@ -10,7 +10,7 @@ returns-in_ok-outcome-in-Err-clause-became g c =
       [],
       seen_sent outcome.datagram,
       refl,
-      unread_becomes (g.N.Admission.admitted c.args.admission.now) c.args.setup.now received.bytes.now received.source received.now outcome.handled (seen_sent outcome.datagram)
+      unread_becomes (g.N.Admission.serving c.args.admission.now) c.args.setup.now received.bytes.now received.source received.now outcome.handled (seen_sent outcome.datagram)
           c.faults_are_of_the_text.ensures.found (fault_seen c.in-Err.fault) c.in-Err.ensures.exact c.in_ok-outcome-in-Err.ensures,
       c.hand.ensures,
     )

@@ -9,7 +9,7 @@ returns-in-None g c =
     (λ outcome h. (
       h.0,
       h.1,
-      message_so (g.N.Admission.admitted c.args.admission.now) c.args.setup.now r.message r.source r.now h.0 outcome.handled (seen_sent outcome.datagram) None
+      message_so (g.N.Admission.serving c.args.admission.now) c.args.setup.now r.message r.source r.now h.0 outcome.handled (seen_sent outcome.datagram) None
           (sym c.purpose_of.ensures ∙ c.in-None.is) h.2,
     ))
     c.responded.ensures

@@ -6,7 +6,7 @@ use Rattle.proxy_dispatch.proofs.requests.asked.Goals as goal
 
 pub returns-then-not-admits : goal.returns-then-not-admits
 returns-then-not-admits g c =
-    let admits = g.N.Admission.admitted c.args.admission.now in
+    let admits = g.N.Admission.serving c.args.admission.now in
     let m = c.args.received.message in
     let said : c.admits.result ≡ false = let a = c.if-not-admits.true in cc in
     by_both c.turned_away.result _ _ _
@@ -20,7 +20,7 @@ returns-then-not-admits g c =
 
 pub returns-then-not-has_opened : goal.returns-then-not-has_opened
 returns-then-not-has_opened g c =
-    let admits = g.N.Admission.admitted c.args.admission.now in
+    let admits = g.N.Admission.serving c.args.admission.now in
     let m = c.args.received.message in
     let said : c.admits.result ≡ true = let a = c.if-not-admits.false in cc in
     IfOk-weaker c.admitted-outcome.result _ _
@@ -34,7 +34,7 @@ returns-then-not-has_opened g c =
 
 pub returns-else-not-has_opened : goal.returns-else-not-has_opened
 returns-else-not-has_opened g c =
-    let admits = g.N.Admission.admitted c.args.admission.now in
+    let admits = g.N.Admission.serving c.args.admission.now in
     let m = c.args.received.message in
     let said : c.admits.result ≡ true = let a = c.if-not-admits.false in cc in
     IfOk-weaker c.admitted-outcome.result _ _

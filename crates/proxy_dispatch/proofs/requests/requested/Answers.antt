@@ -8,7 +8,7 @@ returns-in-Some-find g c =
     let r = c.args.received in
     let key = key_so _ _ _ _ _ c.in_ok-key.ensures c.in-Some.is c.deref.ensures.value in
     IfOk-weaker c.deliver.result _ _
-    (λ outcome h. keyed shown (g.N.Admission.admitted c.args.admission.now) c.args.setup.now r.message r.source r.now c.args.purpose outcome.handled (seen_sent outcome.datagram)
+    (λ outcome h. keyed shown (g.N.Admission.serving c.args.admission.now) c.args.setup.now r.message r.source r.now c.args.purpose outcome.handled (seen_sent outcome.datagram)
     c.args.table.now _ c.deliver.new.table c.deref.result.now c.find.result (Some c.in-Some-find.number) key c.find.ensures c.in-Some-find.is h)
     c.deliver.ensures
 
@@ -17,6 +17,6 @@ returns-in-None g c =
     let r = c.args.received in
     let key = key_so _ _ _ _ _ c.in_ok-key.ensures c.in-Some.is c.deref.ensures.value in
     IfOk-weaker c.unknown-in-None.result _ _
-    (λ outcome h. keyed shown (g.N.Admission.admitted c.args.admission.now) c.args.setup.now r.message r.source r.now c.args.purpose outcome.handled (seen_sent outcome.datagram)
+    (λ outcome h. keyed shown (g.N.Admission.serving c.args.admission.now) c.args.setup.now r.message r.source r.now c.args.purpose outcome.handled (seen_sent outcome.datagram)
     c.args.table.now _ c.unknown-in-None.new.table c.deref.result.now c.find.result None key c.find.ensures c.in-None.is h)
     c.unknown-in-None.ensures

@@ -15,7 +15,7 @@ returns-in-Ack g c =
     (λ outcome h. (
       [],
       refl,
-      purpose_at (g.N.Admission.admitted c.args.admission.now) c.args.setup.now r.message r.source r.now c.args.purpose purposes.Ack [] outcome.handled (seen_sent outcome.datagram) c.in-Ack.is (refl, h),
+      purpose_at (g.N.Admission.serving c.args.admission.now) c.args.setup.now r.message r.source r.now c.args.purpose purposes.Ack [] outcome.handled (seen_sent outcome.datagram) c.in-Ack.is (refl, h),
     ))
     c.acknowledged.ensures
 
@@ -26,14 +26,14 @@ returns-in-Cancel g c =
     (λ outcome handled sent. (
       [],
       refl,
-      purpose_at (g.N.Admission.admitted c.args.admission.now) c.args.setup.now r.message r.source r.now c.args.purpose purposes.Cancel [] outcome.handled (seen_sent outcome.datagram) c.in-Cancel.is (refl, (handled, sent)),
+      purpose_at (g.N.Admission.serving c.args.admission.now) c.args.setup.now r.message r.source r.now c.args.purpose purposes.Cancel [] outcome.handled (seen_sent outcome.datagram) c.in-Cancel.is (refl, (handled, sent)),
     ))
     c.answered.ensures.handled c.answered.ensures.sent
 
 pub returns-in-Some : goal.returns-in-Some
 returns-in-Some g c =
     let r = c.args.received in
-    let admits = g.N.Admission.admitted c.args.admission.now in
+    let admits = g.N.Admission.serving c.args.admission.now in
     IfOk-weaker c.asked.result _ _
     (λ outcome h. (
       h.0,
@@ -46,7 +46,7 @@ returns-in-Some g c =
 pub returns-in-None : goal.returns-in-None
 returns-in-None g c =
     let r = c.args.received in
-    let admits = g.N.Admission.admitted c.args.admission.now in
+    let admits = g.N.Admission.serving c.args.admission.now in
     by_both c.answered-in-None.result _ _ _
     (λ outcome handled sent. (
       [],

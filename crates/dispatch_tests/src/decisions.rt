@@ -1,0 +1,304 @@
+//! Requests of which it is decided what becomes of them: by another setup, by an answer, or by somebody else (RFC 3261 sections 10.3, 16.3
+//! and 22.3).
+use crate::holds::holds;
+use crate::outbox::Outbox;
+use crate::texts::{SOURCE, setup_of, shelf_of};
+use authentication::OwnAnswer;
+use call_messages::lines::{CALL_ID, FROM, MARKED, TAGGED, TO, VIA, text_of};
+use fork_call::Setup;
+use proxy_config::BoundContact;
+use proxy_dispatch::{Admission, Decision, Handled, Opener, Received, SharedCalls, handle};
+use sip_build::OwnStatus;
+use sip_text::Message;
+use sip_uri::{Hop, Transport};
+use std::alloc::{AllocError, Allocator, Global};
+use std::sync::Wait;
+
+/// What is decided of each request.
+#[derive(Clone, Copy)]
+enum Verdict {
+    Opens,
+    /// By a setup in which carol has a contact.
+    OpensBy,
+    Answers,
+    Leaves,
+}
+
+/// What decides so of requests, and so of those to the registrar.
+#[derive(Clone, Copy)]
+struct Decider {
+    decides: Verdict,
+    registers: Verdict,
+}
+
+/// Where carol is reached.
+const CONTACT: Hop = Hop {
+    addr: [198, 51, 100, 7],
+    port: 41_000,
+    transport: Transport::Udp,
+};
+
+/// The setup of a moment at which carol has a contact.
+fn moment_of<A: Allocator + Clone>(alloc: &A, setup: &Setup<A>) -> Result<Setup<A>, AllocError> {
+    let contact = BoundContact::new(b"sip:carol@10.0.0.2", b"carol@10.0.0.2", 1_000, CONTACT);
+    setup.at_moment(alloc.clone()?, b"carol", &[contact])
+}
+
+/// A 403 with a further line.
+fn forbidden<A: Allocator + Clone>(alloc: &A) -> Result<OwnAnswer<A>, AllocError> {
+    let mut answer = OwnAnswer::new(alloc.clone()?, OwnStatus::Forbidden);
+    let value = Vec::from_slice(alloc.clone()?, b"10")?;
+    answer.push(b"Retry-After", value)?;
+    Ok(answer)
+}
+
+/// The decision of this verdict.
+fn decision_of<A: Allocator + Clone>(
+    alloc: &A,
+    setup: &Setup<A>,
+    verdict: Verdict,
+) -> Result<Decision<A>, AllocError> {
+    match verdict {
+        Verdict::Opens => Ok(Decision::Opens),
+        Verdict::OpensBy => Ok(Decision::OpensBy(moment_of(alloc, setup)?)),
+        Verdict::Answers => Ok(Decision::Answers(forbidden(alloc)?)),
+        Verdict::Leaves => Ok(Decision::Leaves),
+    }
+}
+
+impl Admission for Decider {
+    ghost use Rattle.proxy_dispatch.specs.Admitting.{open_all};
+
+    ghost serving = { λ _. record open_all { decides = λ _ _ _ _ _. Unit {0}; registers = λ _ _ _ _ _. Unit {0} } };
+
+    fn admits<R: Wait>(&self, _rt: &R, _opener: Opener) -> bool {
+        true
+    }
+
+    fn release<R: Wait>(&self, _rt: &R) {}
+
+    fn decides<A: Allocator + Clone, R: Wait>(
+        &self,
+        _rt: &R,
+        alloc: &A,
+        setup: &Setup<A>,
+        _request: &Message<A>,
+        _source: Hop,
+        _now: u64,
+    ) -> Result<Decision<A>, AllocError> {
+        decision_of(alloc, setup, self.decides)
+    }
+
+    fn registers<A: Allocator + Clone, R: Wait>(
+        &self,
+        _rt: &R,
+        alloc: &A,
+        setup: &Setup<A>,
+        _request: &Message<A>,
+        _source: Hop,
+        _now: u64,
+    ) -> Result<Decision<A>, AllocError> {
+        decision_of(alloc, setup, self.registers)
+    }
+}
+
+const SEVENTY: &[u8] = b"Max-Forwards: 70";
+
+const CSEQ: &[u8] = b"CSeq: 1 OPTIONS";
+
+/// A request for a user without a location.
+const ASKED: [&[u8]; 8] = [
+    b"OPTIONS sip:carol@example.com SIP/2.0",
+    VIA,
+    SEVENTY,
+    FROM,
+    TO,
+    CALL_ID,
+    CSEQ,
+    b"",
+];
+
+/// The same that no more proxy may pass on.
+const SPENT: [&[u8]; 8] = [
+    b"OPTIONS sip:carol@example.com SIP/2.0",
+    VIA,
+    b"Max-Forwards: 0",
+    FROM,
+    TO,
+    CALL_ID,
+    CSEQ,
+    b"",
+];
+
+/// A REGISTER for the domain, one that asks for an extension, and one of another domain.
+const REGISTER: [&[u8]; 8] = [
+    b"REGISTER sip:example.com SIP/2.0",
+    VIA,
+    b"Max-Forwards: 0",
+    FROM,
+    TO,
+    CALL_ID,
+    b"CSeq: 1 REGISTER",
+    b"",
+];
+
+const EXTENDED: [&[u8]; 9] = [
+    b"REGISTER sip:example.com SIP/2.0",
+    VIA,
+    SEVENTY,
+    FROM,
+    TO,
+    CALL_ID,
+    b"CSeq: 1 REGISTER",
+    b"Proxy-Require: x",
+    b"",
+];
+
+const ELSEWHERE: [&[u8]; 8] = [
+    b"REGISTER sip:elsewhere.example SIP/2.0",
+    VIA,
+    SEVENTY,
+    FROM,
+    TO,
+    CALL_ID,
+    b"CSeq: 1 REGISTER",
+    b"",
+];
+
+/// An ACK of an answer that another gave.
+const ACK: [&[u8]; 8] = [
+    b"ACK sip:bob@192.0.2.4 SIP/2.0",
+    VIA,
+    SEVENTY,
+    FROM,
+    b"t: <sip:bob@example.com>;tag=9",
+    CALL_ID,
+    b"CSeq: 1 ACK",
+    b"",
+];
+
+/// What is decided of a request and of a REGISTER, the lines of a datagram, and what becomes of it.
+type Row<'a> = (Verdict, Verdict, &'a [&'a [u8]], Handled);
+
+const ROWS: [Row<'static>; 14] = [
+    (
+        Verdict::Opens,
+        Verdict::Leaves,
+        &ASKED,
+        Handled::Answered(480),
+    ),
+    (
+        Verdict::OpensBy,
+        Verdict::Leaves,
+        &ASKED,
+        Handled::Opened(0),
+    ),
+    (
+        Verdict::Answers,
+        Verdict::Leaves,
+        &ASKED,
+        Handled::Answered(403),
+    ),
+    (Verdict::Leaves, Verdict::Answers, &ASKED, Handled::Left),
+    (
+        Verdict::Answers,
+        Verdict::Leaves,
+        &SPENT,
+        Handled::Answered(483),
+    ),
+    (
+        Verdict::Leaves,
+        Verdict::Answers,
+        &SPENT,
+        Handled::Answered(483),
+    ),
+    (
+        Verdict::Leaves,
+        Verdict::Answers,
+        &REGISTER,
+        Handled::Answered(403),
+    ),
+    (Verdict::Answers, Verdict::Leaves, &REGISTER, Handled::Left),
+    (
+        Verdict::Leaves,
+        Verdict::Opens,
+        &REGISTER,
+        Handled::Answered(483),
+    ),
+    (
+        Verdict::Answers,
+        Verdict::Leaves,
+        &EXTENDED,
+        Handled::Answered(420),
+    ),
+    (
+        Verdict::Answers,
+        Verdict::Leaves,
+        &ELSEWHERE,
+        Handled::Answered(403),
+    ),
+    (Verdict::Opens, Verdict::Leaves, &ACK, Handled::Forwarded),
+    (Verdict::Answers, Verdict::Leaves, &ACK, Handled::Dropped),
+    (Verdict::Leaves, Verdict::Leaves, &ACK, Handled::Dropped),
+];
+
+/// What becomes of the text of these lines by a service, where that is decided.
+fn becomes<R: Wait>(rt: &R, alloc: Global, row: &Row<'_>, outbox: &mut Outbox) -> Option<Handled> {
+    let shelf = shelf_of(alloc)?;
+    let setup = setup_of(alloc)?.for_a_service();
+    let text = text_of(alloc, row.2)?;
+    let decider = Decider {
+        decides: row.0,
+        registers: row.1,
+    };
+    let received = Received {
+        bytes: &text,
+        source: SOURCE,
+        now: 0,
+    };
+    let mut calls = SharedCalls::new(&shelf);
+    handle(rt, alloc, &mut calls, &setup, &decider, received, outbox).ok()
+}
+
+#[test]
+fn what_is_decided_becomes_of_requests(rt: HostRuntime) {
+    for row in ROWS {
+        let mut outbox = Outbox::new(rt.alloc());
+        let handled = becomes(&rt, rt.alloc(), &row, &mut outbox);
+        holds(&rt, handled == Some(row.3), "what becomes of a datagram");
+    }
+}
+
+const FORBIDDEN: [&[u8]; 9] = [
+    b"SIP/2.0 403 Forbidden",
+    MARKED,
+    FROM,
+    TAGGED,
+    CALL_ID,
+    CSEQ,
+    b"Retry-After: 10",
+    b"Content-Length: 0",
+    b"",
+];
+
+/// Whether the request is answered by the lines that are decided.
+fn is_forbidden<R: Wait>(rt: &R, alloc: Global) -> bool {
+    let mut outbox = Outbox::new(alloc);
+    let row: Row<'_> = (
+        Verdict::Answers,
+        Verdict::Leaves,
+        &ASKED,
+        Handled::Answered(403),
+    );
+    let _handled = becomes(rt, alloc, &row, &mut outbox);
+    match text_of(alloc, &FORBIDDEN) {
+        Some(answer) => outbox.has_sent(SOURCE, &answer),
+        None => false,
+    }
+}
+
+#[test]
+fn an_answer_has_the_lines_that_are_decided(rt: HostRuntime) {
+    let well = is_forbidden(&rt, rt.alloc());
+    holds(&rt, well, "the text of an answer");
+}
