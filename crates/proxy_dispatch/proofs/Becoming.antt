@@ -23,14 +23,15 @@ use Rattle.proxy_routing.specs.Refusing.{status_of_fault}
 use Rattle.proxy_routing.specs.Unrouted.{IfRejected, IsTurnedBack, fault_of}
 use Rattle.fork_call.specs.Opening.{Opens}
 use Rattle.proxy_dispatch.specs.Asking.{asks_service}
-use Rattle.proxy_dispatch.specs.Admitting.{opener_of}
-use Rattle.proxy_dispatch.specs.Becomes.{AdmittedBecomes, AskedBecomes, Becomes, BecomesBy, KeyBecomes, LooksFor, MessageBecomes, NewBecomes, OpenerBecomes, RegisteringBecomes, RequestBecomes, UnknownBecomes}
+use Rattle.proxy_dispatch.specs.Admitting.{Decision, opener_of}
+use Rattle.proxy_dispatch.specs.Becomes.{AckDecided, AdmittedBecomes, AskedBecomes, Becomes, BecomesBy, DecidedBecomes, KeyBecomes, LooksFor, MessageBecomes, NewBecomes, OpenerBecomes, RegisteredBecomes, RegisteringBecomes, RequestBecomes, UnknownBecomes}
 use Rattle.proxy_dispatch.specs.Looks.{Found, Shows, ShowsAll}
 use Rattle.proxy_dispatch.specs.declared.admission.Opener.{Opener}
 use Rattle.proxy_dispatch.specs.declared.admission.Opener.TheVariants as openers
 use Rattle.proxy_dispatch.specs.inner.Becomes.{ToldBecomes}
-use Rattle.proxy_dispatch.specs.Passing.{GoesOn}
+use Rattle.proxy_dispatch.specs.Passing.{GoesOn, HasOwnTag}
 use Rattle.proxy_dispatch.specs.Purpose.{purpose_of}
+use Rattle.proxy_dispatch.specs.declared.purpose.RequestKind.TheVariants as purposes
 use Rattle.proxy_dispatch.specs.Sent.{answer_made, answer_to, passed_text, passing_branch}
 
 -- ---- ACKs
@@ -97,6 +98,26 @@ pub not_registering : (serving : Serving) (setup : Setup) (m : MessageText) (sou
 not_registering serving setup m source now key looks handled sent openers.OutsideDialog other h = h
 not_registering serving setup m source now key looks handled sent openers.WithinDialog other h = h
 not_registering serving setup m source now key looks handled sent openers.Registering other h = absurd (other refl)
+
+-- by what is decided
+pub decided_at : (setup : Setup) (m : MessageText) (source : Hop) (now : ℕ) (key : List ℕ) (looks : List Look) (handled : Handled) (sent : Option Datagram) (decision other : Decision)
+    → decision ≡ other → DecidedBecomes other setup m source now key looks handled sent → DecidedBecomes decision setup m source now key looks handled sent
+decided_at setup m source now key looks handled sent decision other e h =
+    let P : Decision → Type 0 = λ x. DecidedBecomes x setup m source now key looks handled sent in
+    subst P (sym e) h
+
+pub registered_at : (serving : Serving) (setup : Setup) (m : MessageText) (source : Hop) (now : ℕ) (key : List ℕ) (looks : List Look) (handled : Handled) (sent : Option Datagram) (decision other : Decision)
+    → decision ≡ other → RegisteredBecomes other serving setup m source now key looks handled sent → RegisteredBecomes decision serving setup m source now key looks handled sent
+registered_at serving setup m source now key looks handled sent decision other e h =
+    let P : Decision → Type 0 = λ x. RegisteredBecomes x serving setup m source now key looks handled sent in
+    subst P (sym e) h
+
+-- an ACK by what is decided
+pub ack_at : (serving : Serving) (setup : Setup) (m : MessageText) (source : Hop) (now : ℕ) (handled : Handled) (sent : Option Datagram) (decision other : Decision) → (HasOwnTag m → ⊥)
+    → serving.decides setup m source now decision → decision ≡ other → AckDecided other setup m source handled sent → UnknownBecomes serving setup m source now purposes.Ack [] handled sent
+ack_at serving setup m source now handled sent decision other own decides e h =
+    let P : Decision → Type 0 = λ x. AckDecided x setup m source handled sent in
+    (refl, inr (own, decision, decides, subst P (sym e) h))
 
 -- by its top Via value and by what it asks for
 pub registering_so : (serving : Serving) (setup : Setup) (m : MessageText) (source : Hop) (now : ℕ) (key : List ℕ) (looks : List Look) (handled : Handled) (sent : Option Datagram) (via v asks a : Bool)

@@ -171,9 +171,11 @@ pub(crate) fn acknowledged<A: Allocator + Clone, N: Admission, R: Wait>(
     if has_own_tag(&ack) {
         return Ok(Outcome::silent(Handled::Absorbed));
     }
-    match admission.decides(rt, &alloc, setup, &ack, source, now)? {
+    let decision = admission.decides(rt, &alloc, setup, &ack, source, now)?;
+    match decision {
         Decision::Opens => going(alloc, setup, ack, source),
         Decision::OpensBy(moment) => going(alloc, &moment, ack, source),
-        Decision::Answers(_) | Decision::Leaves => Ok(Outcome::silent(Handled::Dropped)),
+        Decision::Answers(_) => Ok(Outcome::silent(Handled::Dropped)),
+        Decision::Leaves => Ok(Outcome::silent(Handled::Dropped)),
     }
 }

@@ -240,27 +240,21 @@ fn registered<A: Allocator + Clone, N: Admission, R: Wait>(
             OwnStatus::BadExtension,
         );
     }
-    let ReceivedMessage {
-        alloc,
+    let message = &received.message;
+    let decision = admission.registers(
+        rt,
+        &received.alloc,
+        setup,
         message,
-        source,
-        now,
-    } = received;
-    match admission.registers(rt, &alloc, setup, &message, source, now)? {
-        Decision::Opens | Decision::OpensBy(_) => opened(
-            rt,
-            table,
-            setup,
-            admission,
-            key,
-            ReceivedMessage {
-                alloc,
-                message,
-                source,
-                now,
-            },
-        ),
-        Decision::Answers(answer) => answered_with(alloc, message, source, &answer),
+        received.source,
+        received.now,
+    )?;
+    match decision {
+        Decision::Opens => opened(rt, table, setup, admission, key, received),
+        Decision::OpensBy(_) => opened(rt, table, setup, admission, key, received),
+        Decision::Answers(answer) => {
+            answered_with(received.alloc, received.message, received.source, &answer)
+        }
         Decision::Leaves => Ok(Outcome::silent(Handled::Left)),
     }
 }

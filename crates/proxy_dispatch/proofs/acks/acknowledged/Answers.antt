@@ -1,15 +1,58 @@
-use Rattle.proxy_dispatch.proofs.Common.{None, ap, refl, subst, sym, ◌∙◌, Passes, seen_sent}
+use Rattle.proxy_dispatch.proofs.Common.{◌≡◌, ◌∙◌, ap, inl, refl, sym, IfOk-weaker, seen_sent}
 use Rattle.std.proofs.lemmas.Bool.{false≢true}
-use Rattle.proxy_dispatch.specs.declared.datagrams.Handled.TheVariants.{Dropped}
-use Rattle.proxy_dispatch.specs.Becomes.{AckBecomes}
-use Rattle.proxy_dispatch.proofs.Outcomes.{outcome_at}
+use Rattle.proxy_dispatch.specs.Admitting.{Answers, Leaves, Opens}
+use Rattle.proxy_dispatch.specs.Passing.{HasOwnTag}
+use Rattle.proxy_dispatch.specs.SeenDecision.{seen_decision}
+use Rattle.proxy_dispatch.proofs.Becoming.{ack_at}
 use Rattle.proxy_dispatch.proofs.acks.acknowledged.Goals as goal
 
-pub returns-in-None : goal.returns-in-None
-returns-in-None g c =
-    let setup = c.args.setup.now in
-    let P : _ → Type 0 = λ sent. Passes setup c.args.ack c.args.source (seen_sent sent) in
-    outcome_at (λ handled sent. AckBecomes setup c.args.ack c.args.source handled sent)
-    c.silent-in-None.result.handled Dropped (seen_sent c.silent-in-None.result.datagram) None
-    c.silent-in-None.ensures.handled (ap seen_sent c.silent-in-None.ensures.silent)
-    (λ h. false≢true (sym c.if-has_own_tag.false ∙ c.has_own_tag.ensures.1 h), subst P c.in-None.is c.in_ok-passing.ensures, refl)
+pub going-requires-clause-other : goal.going-requires-clause-other
+going-requires-clause-other g c = λ h. false≢true (sym c.if-has_own_tag.false ∙ c.has_own_tag.ensures.1 h)
+
+pub going-in-OpensBy-requires-clause-other : goal.going-in-OpensBy-requires-clause-other
+going-in-OpensBy-requires-clause-other g c = λ h. false≢true (sym c.if-has_own_tag.false ∙ c.has_own_tag.ensures.1 h)
+
+pub returns-then-has_own_tag : goal.returns-then-has_own_tag
+returns-then-has_own_tag g c = (refl, inl (c.has_own_tag.ensures.0 c.if-has_own_tag.true, c.silent.ensures.handled, ap seen_sent c.silent.ensures.silent))
+
+pub returns-in-Opens : goal.returns-in-Opens
+returns-in-Opens g c =
+    let serving = g.N.Admission.serving c.args.admission.now in
+    let r = c.args.received in
+    let decision = seen_decision c.args.setup.now c.in_ok-decision.decision in
+    let own : HasOwnTag r.message → ⊥ = λ h. false≢true (sym c.if-has_own_tag.false ∙ c.has_own_tag.ensures.1 h) in
+    IfOk-weaker c.going.result _ _
+    (λ outcome h. ack_at serving c.args.setup.now r.message r.source r.now outcome.handled (seen_sent outcome.datagram) decision (Opens c.args.setup.now) own c.in_ok-decision.ensures
+    (ap (seen_decision c.args.setup.now) c.in-Opens.is) h)
+    c.going.ensures
+
+pub returns-in-OpensBy : goal.returns-in-OpensBy
+returns-in-OpensBy g c =
+    let serving = g.N.Admission.serving c.args.admission.now in
+    let r = c.args.received in
+    let decision = seen_decision c.args.setup.now c.in_ok-decision.decision in
+    let own : HasOwnTag r.message → ⊥ = λ h. false≢true (sym c.if-has_own_tag.false ∙ c.has_own_tag.ensures.1 h) in
+    IfOk-weaker c.going-in-OpensBy.result _ _
+    (λ outcome h. ack_at serving c.args.setup.now r.message r.source r.now outcome.handled (seen_sent outcome.datagram) decision (Opens c.in-OpensBy.moment) own c.in_ok-decision.ensures
+    (ap (seen_decision c.args.setup.now) c.in-OpensBy.is) h)
+    c.going-in-OpensBy.ensures
+
+pub returns-in-Answers : goal.returns-in-Answers
+returns-in-Answers g c =
+    let serving = g.N.Admission.serving c.args.admission.now in
+    let r = c.args.received in
+    let decision = seen_decision c.args.setup.now c.in_ok-decision.decision in
+    let own : HasOwnTag r.message → ⊥ = λ h. false≢true (sym c.if-has_own_tag.false ∙ c.has_own_tag.ensures.1 h) in
+    let outcome = c.silent-in-Answers.result in
+    ack_at serving c.args.setup.now r.message r.source r.now outcome.handled (seen_sent outcome.datagram) decision (Answers c.in-Answers.field-0) own c.in_ok-decision.ensures
+    (ap (seen_decision c.args.setup.now) c.in-Answers.is) (c.silent-in-Answers.ensures.handled, ap seen_sent c.silent-in-Answers.ensures.silent)
+
+pub returns-in-Leaves : goal.returns-in-Leaves
+returns-in-Leaves g c =
+    let serving = g.N.Admission.serving c.args.admission.now in
+    let r = c.args.received in
+    let decision = seen_decision c.args.setup.now c.in_ok-decision.decision in
+    let own : HasOwnTag r.message → ⊥ = λ h. false≢true (sym c.if-has_own_tag.false ∙ c.has_own_tag.ensures.1 h) in
+    let outcome = c.silent-in-Leaves.result in
+    ack_at serving c.args.setup.now r.message r.source r.now outcome.handled (seen_sent outcome.datagram) decision (Leaves) own c.in_ok-decision.ensures
+    (ap (seen_decision c.args.setup.now) c.in-Leaves.is) (c.silent-in-Leaves.ensures.handled, ap seen_sent c.silent-in-Leaves.ensures.silent)

@@ -1,20 +1,9 @@
-use Rattle.proxy_dispatch.proofs.Common.{[], inl, inr, refl, IfOk-weaker}
-use Rattle.fork_call.specs.Opening.{IsRefusedFor}
-use Rattle.proxy_dispatch.proofs.Rejecting.{no_memory, rejected_at}
+use Rattle.proxy_dispatch.proofs.Common.{IfOk-weaker}
+use Rattle.proxy_dispatch.specs.SeenDecision.{seen_decision}
 use Rattle.proxy_dispatch.proofs.requests.opened.Goals as goal
 
-pub rejected-requires : goal.rejected-requires
-rejected-requires g c =
-    let r = c.args.received in
-    no_memory c.args.setup.now r.message r.source c.in-Rejected.fault c.in-Rejected.request
-    (rejected_at (IsRefusedFor c.args.setup.now r.message r.source) c.in-Err.why c.in-Rejected.fault c.in-Rejected.request c.in-Rejected.is c.in-Err.ensures.refused)
-
-pub returns-in-Ok : goal.returns-in-Ok
-returns-in-Ok g c = c.put.ensures c.args.setup.now c.args.received.message c.in-Ok.ensures.opened
-
-pub returns-in-Rejected : goal.returns-in-Rejected
-returns-in-Rejected g c =
-    let r = c.args.received in
-    IfOk-weaker c.rejected.result _ _ (λ outcome h. ([], refl, inr (inl h)))
-    (c.rejected.ensures c.args.setup.now r.message
-    (rejected_at (IsRefusedFor c.args.setup.now r.message r.source) c.in-Err.why c.in-Rejected.fault c.in-Rejected.request c.in-Rejected.is c.in-Err.ensures.refused))
+pub returns : goal.returns
+returns g c =
+    IfOk-weaker c.decided.result _ _
+    (λ outcome h. (h.0, h.1, (seen_decision c.args.setup.now c.in_ok-decision.decision, c.in_ok-decision.ensures, h.2)))
+    c.decided.ensures

@@ -15,7 +15,7 @@ returns-in-Ack g c =
     (λ outcome h. (
       [],
       refl,
-      purpose_at (g.N.Admission.serving c.args.admission.now) c.args.setup.now r.message r.source r.now c.args.purpose purposes.Ack [] outcome.handled (seen_sent outcome.datagram) c.in-Ack.is (refl, h),
+      purpose_at (g.N.Admission.serving c.args.admission.now) c.args.setup.now r.message r.source r.now c.args.purpose purposes.Ack [] outcome.handled (seen_sent outcome.datagram) c.in-Ack.is h,
     ))
     c.acknowledged.ensures
 
@@ -33,25 +33,25 @@ returns-in-Cancel g c =
 pub returns-in-Some : goal.returns-in-Some
 returns-in-Some g c =
     let r = c.args.received in
-    let admits = g.N.Admission.serving c.args.admission.now in
+    let serving = g.N.Admission.serving c.args.admission.now in
     IfOk-weaker c.asked.result _ _
     (λ outcome h. (
       h.0,
       h.1,
-      purpose_at admits c.args.setup.now r.message r.source r.now c.args.purpose purposes.Opening h.0 outcome.handled (seen_sent outcome.datagram) c.in-Opening.is
-          (new_at admits c.args.setup.now r.message r.source r.now (Some c.in-Some.key.items) (request_key r.message) h.0 outcome.handled (seen_sent outcome.datagram) (sym (key_so _ _ _ _ _ c.requires.key c.in-Some.is refl)) h.2),
+      purpose_at serving c.args.setup.now r.message r.source r.now c.args.purpose purposes.Opening h.0 outcome.handled (seen_sent outcome.datagram) c.in-Opening.is
+          (new_at serving c.args.setup.now r.message r.source r.now (Some c.in-Some.key.items) (request_key r.message) h.0 outcome.handled (seen_sent outcome.datagram) (sym (key_so _ _ _ _ _ c.requires.key c.in-Some.is refl)) h.2),
     ))
     c.asked.ensures
 
 pub returns-in-None : goal.returns-in-None
 returns-in-None g c =
     let r = c.args.received in
-    let admits = g.N.Admission.serving c.args.admission.now in
+    let serving = g.N.Admission.serving c.args.admission.now in
     by_both c.answered-in-None.result _ _ _
     (λ outcome handled sent. (
       [],
       refl,
-      purpose_at admits c.args.setup.now r.message r.source r.now c.args.purpose purposes.Opening [] outcome.handled (seen_sent outcome.datagram) c.in-Opening.is
-          (new_at admits c.args.setup.now r.message r.source r.now None (request_key r.message) [] outcome.handled (seen_sent outcome.datagram) (sym (no_key _ _ _ c.requires.key c.in-None.is)) (refl, (handled, sent))),
+      purpose_at serving c.args.setup.now r.message r.source r.now c.args.purpose purposes.Opening [] outcome.handled (seen_sent outcome.datagram) c.in-Opening.is
+          (new_at serving c.args.setup.now r.message r.source r.now None (request_key r.message) [] outcome.handled (seen_sent outcome.datagram) (sym (no_key _ _ _ c.requires.key c.in-None.is)) (refl, (handled, sent))),
     ))
     c.answered-in-None.ensures.handled c.answered-in-None.ensures.sent

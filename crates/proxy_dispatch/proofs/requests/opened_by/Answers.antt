@@ -1,0 +1,20 @@
+use Rattle.proxy_dispatch.proofs.Common.{[], inl, inr, refl, IfOk-weaker}
+use Rattle.fork_call.specs.Opening.{IsRefusedFor}
+use Rattle.proxy_dispatch.proofs.Rejecting.{no_memory, rejected_at}
+use Rattle.proxy_dispatch.proofs.requests.opened_by.Goals as goal
+
+pub rejected-requires : goal.rejected-requires
+rejected-requires g c =
+    let o = c.args.opening in
+    no_memory c.args.setup.now o.request o.source c.in-Rejected.fault c.in-Rejected.request
+    (rejected_at (IsRefusedFor c.args.setup.now o.request o.source) c.in-Err.why c.in-Rejected.fault c.in-Rejected.request c.in-Rejected.is c.in-Err.ensures.refused)
+
+pub returns-in-Ok : goal.returns-in-Ok
+returns-in-Ok g c = c.put.ensures c.args.setup.now c.args.opening.request c.in-Ok.ensures.opened
+
+pub returns-in-Rejected : goal.returns-in-Rejected
+returns-in-Rejected g c =
+    let o = c.args.opening in
+    IfOk-weaker c.rejected.result _ _ (λ outcome h. ([], refl, inr (inl h.0)))
+    (c.rejected.ensures c.args.setup.now o.request
+    (rejected_at (IsRefusedFor c.args.setup.now o.request o.source) c.in-Err.why c.in-Rejected.fault c.in-Rejected.request c.in-Rejected.is c.in-Err.ensures.refused))

@@ -1,0 +1,17 @@
+use Rattle.proxy_dispatch.proofs.Common.{seen_sent}
+use Rattle.fork_call.specs.Prepared.{IsStoppedFor}
+use Rattle.proxy_dispatch.proofs.Rejecting.{no_memory, rejected_at, stopped_by}
+use Rattle.proxy_dispatch.proofs.requests.prepared.Goals as goal
+
+pub rejected-requires : goal.rejected-requires
+rejected-requires g c =
+    let o = c.args.opening in
+    no_memory c.args.setup.now o.request o.source c.in-Rejected.fault c.in-Rejected.request
+    (rejected_at (IsStoppedFor c.args.setup.now o.request o.source) c.in-Err.why c.in-Rejected.fault c.in-Rejected.request c.in-Rejected.is c.in-Err.ensures.refused).1
+
+pub returns-in-Rejected-clause-stopped : goal.returns-in-Rejected-clause-stopped
+returns-in-Rejected-clause-stopped g c =
+    let o = c.args.opening in
+    let outcome = c.in_ok-rejected.field-0 in
+    let by = rejected_at (IsStoppedFor c.args.setup.now o.request o.source) c.in-Err.why c.in-Rejected.fault c.in-Rejected.request c.in-Rejected.is c.in-Err.ensures.refused in
+    stopped_by c.args.setup.now o.request o.source c.in-Rejected.fault outcome.handled (seen_sent outcome.datagram) by.0 (c.in_ok-rejected.ensures c.args.setup.now o.request by.1)

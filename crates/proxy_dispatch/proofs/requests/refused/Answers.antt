@@ -1,0 +1,21 @@
+use Rattle.proxy_dispatch.proofs.Common.{[], inl, inr, refl, subst, sym, MessageText, seen_sent}
+use Rattle.proxy_routing.specs.Admission.{IsPrepared}
+use Rattle.fork_call.specs.Prepared.{IsPreparedAs}
+use Rattle.proxy_dispatch.specs.Becomes.{IsStopped}
+use Rattle.proxy_dispatch.proofs.Outcomes.{by_both, err_at, ok_at}
+use Rattle.proxy_dispatch.proofs.requests.refused.Goals as goal
+
+pub returns-in-Ok : goal.returns-in-Ok
+returns-in-Ok g c =
+    let o = c.args.opening in
+    let is = ok_at c.in_ok-prepared.field-0 (IsPreparedAs c.args.setup.now o.request o.source) c.in-Ok.prepared c.in-Ok.is c.in_ok-prepared.ensures.passed in
+    let P : MessageText → Type 0 = λ x. IsPrepared c.args.setup.now o.request o.source x in
+    by_both c.prepared_answer.result _ _ _
+    (λ outcome handled sent. inr (refl, (c.in-Ok.prepared, is), (handled, sent)))
+    c.prepared_answer.ensures.handled
+    (c.prepared_answer.ensures.sent c.args.setup.now o.request (subst P (sym c.request.ensures) is.admitted.prepared))
+
+pub returns-in-Err : goal.returns-in-Err
+returns-in-Err g c =
+    let o = c.args.opening in
+    inl (err_at c.in_ok-prepared.field-0 (λ outcome. IsStopped c.args.setup.now o.request o.source [] outcome.handled (seen_sent outcome.datagram)) c.in-Err.outcome c.in-Err.is c.in_ok-prepared.ensures.stopped)
