@@ -2,6 +2,7 @@
 use crate::holds::holds;
 use crate::outbox::Outbox;
 use crate::texts::{SOURCE, setup_of, shelf_of};
+use authentication::OwnAnswer;
 use call_messages::lines::{CALL_ID, FROM, MARKED, TAGGED, TO, VIA, text_of};
 use call_table::Shelf;
 use fork_call::{Call, Setup};
@@ -69,6 +70,10 @@ impl Admission for Gate {
         Ok(Decision::Opens)
     }
 
+    fn has_registrar(&self) -> bool {
+        false
+    }
+
     fn registers<A: Allocator + Clone, R: Wait>(
         &self,
         _rt: &R,
@@ -77,8 +82,8 @@ impl Admission for Gate {
         _request: &Message<A>,
         _source: Hop,
         _now: u64,
-    ) -> Result<Decision<A>, AllocError> {
-        Ok(Decision::Opens)
+    ) -> Result<Option<OwnAnswer<A>>, AllocError> {
+        Ok(None)
     }
 }
 

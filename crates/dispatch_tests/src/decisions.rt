@@ -14,7 +14,7 @@ use sip_uri::{Hop, Transport};
 use std::alloc::{AllocError, Allocator, Global};
 use std::sync::Wait;
 
-/// What is decided of each request.
+/// What is decided of each request, and of each REGISTER for the domain.
 #[derive(Clone, Copy)]
 enum Verdict {
     Opens,
@@ -24,11 +24,11 @@ enum Verdict {
     Leaves,
 }
 
-/// What decides so of requests, and so of those to the registrar.
+/// What decides so of requests, and whether its registrar answers, if it has one.
 #[derive(Clone, Copy)]
 struct Decider {
     decides: Verdict,
-    registers: Verdict,
+    registrar: Option<bool>,
 }
 
 /// Where carol is reached.
@@ -67,9 +67,14 @@ fn decision_of<A: Allocator + Clone>(
 }
 
 impl Admission for Decider {
+    ghost use Rattle.std.specs.Prelude.{is_some};
     ghost use Rattle.proxy_dispatch.specs.Admitting.{open_all};
 
-    ghost serving = { λ _. record open_all { decides = λ _ _ _ _ _. Unit {0}; registers = λ _ _ _ _ _. Unit {0} } };
+    ghost serving = { λ decider. record open_all {
+      decides = λ _ _ _ _ _. Unit {0};
+      registrar = is_some decider.registrar;
+      registers = λ _ _ _ _ _. Unit {0};
+    } };
 
     fn admits<R: Wait>(&self, _rt: &R, _opener: Opener) -> bool {
         true
@@ -89,16 +94,23 @@ impl Admission for Decider {
         decision_of(alloc, setup, self.decides)
     }
 
+    fn has_registrar(&self) -> bool {
+        self.registrar.is_some()
+    }
+
     fn registers<A: Allocator + Clone, R: Wait>(
         &self,
         _rt: &R,
         alloc: &A,
-        setup: &Setup<A>,
+        _setup: &Setup<A>,
         _request: &Message<A>,
         _source: Hop,
         _now: u64,
-    ) -> Result<Decision<A>, AllocError> {
-        decision_of(alloc, setup, self.registers)
+    ) -> Result<Option<OwnAnswer<A>>, AllocError> {
+        match self.registrar {
+            Some(true) => Ok(Some(forbidden(alloc)?)),
+            Some(false) | None => Ok(None),
+        }
     }
 }
 
@@ -177,69 +189,44 @@ const ACK: [&[u8]; 8] = [
     b"",
 ];
 
-/// What is decided of a request and of a REGISTER, the lines of a datagram, and what becomes of it.
-type Row<'a> = (Verdict, Verdict, &'a [&'a [u8]], Handled);
+/// What is decided of a request, whether the registrar answers, if there is one, the lines of a datagram, and what becomes of it.
+type Row<'a> = (Verdict, Option<bool>, &'a [&'a [u8]], Handled);
 
 const ROWS: [Row<'static>; 14] = [
-    (
-        Verdict::Opens,
-        Verdict::Leaves,
-        &ASKED,
-        Handled::Answered(480),
-    ),
-    (
-        Verdict::OpensBy,
-        Verdict::Leaves,
-        &ASKED,
-        Handled::Opened(0),
-    ),
+    (Verdict::Opens, None, &ASKED, Handled::Answered(480)),
+    (Verdict::OpensBy, Some(false), &ASKED, Handled::Opened(0)),
     (
         Verdict::Answers,
-        Verdict::Leaves,
+        Some(false),
         &ASKED,
         Handled::Answered(403),
     ),
-    (Verdict::Leaves, Verdict::Answers, &ASKED, Handled::Left),
-    (
-        Verdict::Answers,
-        Verdict::Leaves,
-        &SPENT,
-        Handled::Answered(483),
-    ),
+    (Verdict::Leaves, Some(true), &ASKED, Handled::Left),
+    (Verdict::Answers, None, &SPENT, Handled::Answered(483)),
+    (Verdict::Leaves, None, &SPENT, Handled::Answered(483)),
     (
         Verdict::Leaves,
-        Verdict::Answers,
-        &SPENT,
-        Handled::Answered(483),
-    ),
-    (
-        Verdict::Leaves,
-        Verdict::Answers,
+        Some(true),
         &REGISTER,
         Handled::Answered(403),
     ),
-    (Verdict::Answers, Verdict::Leaves, &REGISTER, Handled::Left),
-    (
-        Verdict::Leaves,
-        Verdict::Opens,
-        &REGISTER,
-        Handled::Answered(483),
-    ),
+    (Verdict::Answers, Some(false), &REGISTER, Handled::Left),
+    (Verdict::Opens, None, &REGISTER, Handled::Answered(483)),
     (
         Verdict::Answers,
-        Verdict::Leaves,
+        Some(false),
         &EXTENDED,
         Handled::Answered(420),
     ),
     (
         Verdict::Answers,
-        Verdict::Leaves,
+        Some(false),
         &ELSEWHERE,
         Handled::Answered(403),
     ),
-    (Verdict::Opens, Verdict::Leaves, &ACK, Handled::Forwarded),
-    (Verdict::Answers, Verdict::Leaves, &ACK, Handled::Dropped),
-    (Verdict::Leaves, Verdict::Leaves, &ACK, Handled::Dropped),
+    (Verdict::Opens, Some(false), &ACK, Handled::Forwarded),
+    (Verdict::Answers, Some(false), &ACK, Handled::Dropped),
+    (Verdict::Leaves, Some(true), &ACK, Handled::Dropped),
 ];
 
 /// What becomes of the text of these lines by a service, where that is decided.
@@ -249,7 +236,7 @@ fn becomes<R: Wait>(rt: &R, alloc: Global, row: &Row<'_>, outbox: &mut Outbox) -
     let text = text_of(alloc, row.2)?;
     let decider = Decider {
         decides: row.0,
-        registers: row.1,
+        registrar: row.1,
     };
     let received = Received {
         bytes: &text,
@@ -284,12 +271,7 @@ const FORBIDDEN: [&[u8]; 9] = [
 /// Whether the request is answered by the lines that are decided.
 fn is_forbidden<R: Wait>(rt: &R, alloc: Global) -> bool {
     let mut outbox = Outbox::new(alloc);
-    let row: Row<'_> = (
-        Verdict::Answers,
-        Verdict::Leaves,
-        &ASKED,
-        Handled::Answered(403),
-    );
+    let row: Row<'_> = (Verdict::Answers, None, &ASKED, Handled::Answered(403));
     let _handled = becomes(rt, alloc, &row, &mut outbox);
     match text_of(alloc, &FORBIDDEN) {
         Some(answer) => outbox.has_sent(SOURCE, &answer),

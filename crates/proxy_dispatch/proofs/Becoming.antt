@@ -13,7 +13,10 @@ use Rattle.sip_via.specs.declared.branch.BranchName.{BranchName}
 use Rattle.sip_via.specs.declared.own.ViaFault.TheVariants.{BadVia}
 use Rattle.sip_via.specs.ViaFaults.{refusal}
 use Rattle.sip_build.specs.declared.responses.OwnStatus.{OwnStatus}
+use Rattle.sip_build.specs.declared.responses.OwnStatus.TheVariants as own
 use Rattle.sip_build.specs.Forwarding.{forwarded}
+use Rattle.sip_build.specs.Generated.{code_of}
+use Rattle.authentication.specs.Answer.{Answer}
 use Rattle.call_model.specs.Call.{numbered}
 use Rattle.proxy_routing.specs.declared.fault.RequestRejection.{RequestRejection}
 use Rattle.proxy_routing.specs.declared.unrouted.Unrouted.{Unrouted}
@@ -24,7 +27,7 @@ use Rattle.proxy_routing.specs.Unrouted.{IfRejected, IsTurnedBack, fault_of}
 use Rattle.fork_call.specs.Opening.{Opens}
 use Rattle.proxy_dispatch.specs.Asking.{asks_service}
 use Rattle.proxy_dispatch.specs.Admitting.{Decision, opener_of}
-use Rattle.proxy_dispatch.specs.Becomes.{AckDecided, AdmittedBecomes, AskedBecomes, Becomes, BecomesBy, DecidedBecomes, KeyBecomes, LooksFor, MessageBecomes, NewBecomes, OpenerBecomes, RegisteredBecomes, RegisteringBecomes, RequestBecomes, UnknownBecomes}
+use Rattle.proxy_dispatch.specs.Becomes.{AckDecided, AdmittedBecomes, AskedBecomes, Becomes, BecomesBy, DecidedBecomes, KeyBecomes, LooksFor, MarkedBecomes, MessageBecomes, NewBecomes, OpenerBecomes, RegisteredBecomes, RegisteringBecomes, RequestBecomes, UnknownBecomes}
 use Rattle.proxy_dispatch.specs.Looks.{Found, Shows, ShowsAll}
 use Rattle.proxy_dispatch.specs.declared.admission.Opener.{Opener}
 use Rattle.proxy_dispatch.specs.declared.admission.Opener.TheVariants as openers
@@ -32,7 +35,8 @@ use Rattle.proxy_dispatch.specs.inner.Becomes.{ToldBecomes}
 use Rattle.proxy_dispatch.specs.Passing.{GoesOn, HasOwnTag}
 use Rattle.proxy_dispatch.specs.Purpose.{purpose_of}
 use Rattle.proxy_dispatch.specs.declared.purpose.RequestKind.TheVariants as purposes
-use Rattle.proxy_dispatch.specs.Sent.{answer_made, answer_to, passed_text, passing_branch}
+use Rattle.proxy_dispatch.specs.Sent.{answer_made, answer_of, answer_to, passed_text, passing_branch}
+use Rattle.proxy_dispatch.specs.declared.datagrams.Handled.TheVariants.{Answered}
 
 -- ---- ACKs
 
@@ -106,12 +110,6 @@ decided_at setup m source now key looks handled sent decision other e h =
     let P : Decision → Type 0 = λ x. DecidedBecomes x setup m source now key looks handled sent in
     subst P (sym e) h
 
-pub registered_at : (serving : Serving) (setup : Setup) (m : MessageText) (source : Hop) (now : ℕ) (key : List ℕ) (looks : List Look) (handled : Handled) (sent : Option Datagram) (decision other : Decision)
-    → decision ≡ other → RegisteredBecomes other serving setup m source now key looks handled sent → RegisteredBecomes decision serving setup m source now key looks handled sent
-registered_at serving setup m source now key looks handled sent decision other e h =
-    let P : Decision → Type 0 = λ x. RegisteredBecomes x serving setup m source now key looks handled sent in
-    subst P (sym e) h
-
 -- an ACK by what is decided
 pub ack_at : (serving : Serving) (setup : Setup) (m : MessageText) (source : Hop) (now : ℕ) (handled : Handled) (sent : Option Datagram) (decision other : Decision) → (HasOwnTag m → ⊥)
     → serving.decides setup m source now decision → decision ≡ other → AckDecided other setup m source handled sent → UnknownBecomes serving setup m source now purposes.Ack [] handled sent
@@ -119,20 +117,40 @@ ack_at serving setup m source now handled sent decision other own decides e h =
     let P : Decision → Type 0 = λ x. AckDecided x setup m source handled sent in
     (refl, inr (own, decision, decides, subst P (sym e) h))
 
--- by its top Via value and by what it asks for
-pub registering_so : (serving : Serving) (setup : Setup) (m : MessageText) (source : Hop) (now : ℕ) (key : List ℕ) (looks : List Look) (handled : Handled) (sent : Option Datagram) (via v asks a : Bool)
-    → via ≡ v → asks ≡ a → RegisteringBecomes v a serving setup m source now key looks handled sent → RegisteringBecomes via asks serving setup m source now key looks handled sent
-registering_so serving setup m source now key looks handled sent via v asks a e f h =
-    let P : Bool → Type 0 = λ x. RegisteringBecomes x asks serving setup m source now key looks handled sent in
-    let Q : Bool → Type 0 = λ x. RegisteringBecomes v x serving setup m source now key looks handled sent in
+-- a REGISTER by its top Via value and by what it asks for
+pub registering_so : (serving : Serving) (setup : Setup) (m : MessageText) (source : Hop) (now : ℕ) (handled : Handled) (sent : Option Datagram) (via v asks a : Bool)
+    → via ≡ v → asks ≡ a → RegisteringBecomes v a serving setup m source now [] handled sent → RegisteringBecomes via asks serving setup m source now [] handled sent
+registering_so serving setup m source now handled sent via v asks a e f h =
+    let P : Bool → Type 0 = λ x. RegisteringBecomes x asks serving setup m source now [] handled sent in
+    let Q : Bool → Type 0 = λ x. RegisteringBecomes v x serving setup m source now [] handled sent in
     subst P (sym e) (subst Q (sym f) h)
 
+-- by what it is with its source
+pub marked_at : (serving : Serving) (setup : Setup) (m : MessageText) (source : Hop) (now : ℕ) (handled : Handled) (sent : Option Datagram) (r other : Result MessageText ViaFault)
+    → r ≡ other → MarkedBecomes other serving setup m source now [] handled sent → MarkedBecomes r serving setup m source now [] handled sent
+marked_at serving setup m source now handled sent r other e h =
+    let P : Result MessageText ViaFault → Type 0 = λ x. MarkedBecomes x serving setup m source now [] handled sent in
+    subst P (sym e) h
+
+pub unmarked_at : (serving : Serving) (setup : Setup) (m back : MessageText) (source : Hop) (now : ℕ) (handled : Handled) (sent : Option Datagram) (r : Result MessageText ViaFault)
+    → refusal r ≡ BadVia → back ≡ m → handled ≡ Answered (code_of own.BadRequest) → sent ≡ Some (answer_of back source own.BadRequest []) → MarkedBecomes r serving setup m source now [] handled sent
+unmarked_at serving setup m back source now handled sent (Ok x) e f h s = absurd cc
+unmarked_at serving setup m back source now handled sent (Err fault) e f h s = (refl, (h, s ∙ ap (λ (x : MessageText). Some (answer_of x source own.BadRequest [])) f))
+
+-- by what the registrar answers
+pub answered_by : (serving : Serving) (setup : Setup) (m with_source : MessageText) (source : Hop) (now : ℕ) (handled : Handled) (sent : Option Datagram) (answer other : Option Answer)
+    → serving.registers setup with_source source now answer → answer ≡ other → RegisteredBecomes other m source [] handled sent
+    → MarkedBecomes (Ok with_source) serving setup m source now [] handled sent
+answered_by serving setup m with_source source now handled sent answer other registers e h =
+    let P : Option Answer → Type 0 = λ x. RegisteredBecomes x m source [] handled sent in
+    (answer, registers, subst P (sym e) h)
+
 pub asked_so : (serving : Serving) (setup : Setup) (m : MessageText) (source : Hop) (now : ℕ) (key : List ℕ) (opener : Opener) (said b : Bool) (looks : List Look) (handled : Handled) (sent : Option Datagram)
-    → serving.admits opener said → opener ≡ opener_of setup m → said ≡ b → AskedBecomes b serving setup m source now key looks handled sent
+    → serving.admits opener said → opener ≡ opener_of serving.registrar setup m → said ≡ b → AskedBecomes b serving setup m source now key looks handled sent
     → NewBecomes serving setup m source now (Some key) looks handled sent
 asked_so serving setup m source now key opener said b looks handled sent h e f becomes =
     let P : Opener → Type 0 = λ x. serving.admits x said in
-    let Q : Bool → Type 0 = λ x. serving.admits (opener_of setup m) x in
+    let Q : Bool → Type 0 = λ x. serving.admits (opener_of serving.registrar setup m) x in
     (b, subst Q f (subst P e h), becomes)
 
 -- ---- a request

@@ -22,18 +22,17 @@ abbrev pub is_domain_if_read : Setup → Result Uri UriFault → Bool
 is_domain_if_read setup (Ok uri) = is_domain setup uri
 is_domain_if_read setup (Err fault) = false
 
--- a REGISTER for the domain, where the proxy is a service (section 10.2)
+-- a REGISTER for the domain (section 10.2)
 abbrev pub is_for_registrar : Setup → MessageText → Bool
-is_for_registrar setup m =
-    setup.for_service && (bytes_eq (or_empty (method_in m.start)) (codes "REGISTER") && is_domain_if_read setup (target_uri m))
+is_for_registrar setup m = bytes_eq (or_empty (method_in m.start)) (codes "REGISTER") && is_domain_if_read setup (target_uri m)
 
 -- by the tag of its To
 abbrev pub opener_by : Option (List ℕ) → Opener
 opener_by None = OutsideDialog
 opener_by (Some tag) = WithinDialog
 
-abbrev pub opener_of : Setup → MessageText → Opener
-opener_of setup m = if is_for_registrar setup m then Registering else opener_by (tag_in (value_of To m.headers))
+abbrev pub opener_of : (registrar : Bool) → Setup → MessageText → Opener
+opener_of registrar setup m = if registrar && is_for_registrar setup m then Registering else opener_by (tag_in (value_of To m.headers))
 
 -- ---- what is decided of it
 
@@ -45,17 +44,19 @@ pub data Decision : Type 0 where
   -- it opens nothing, and another answers it, or nobody
   Leaves : Decision
 
--- what is said of requests: which may open calls now; what is decided of one that may, which came from there then; and of a REGISTER for the
--- domain
+-- what is said of requests: which may open calls now; what is decided of one that may, which came from there then; whether there is a
+-- registrar, and how it answers a REGISTER for the domain, if it does
 pub record Serving : Type 1 where
   pub admits : Opener → Bool → Type 0
   pub decides : Setup → MessageText → Hop → (now : ℕ) → Decision → Type 0
-  pub registers : Setup → MessageText → Hop → (now : ℕ) → Decision → Type 0
+  pub registrar : Bool
+  pub registers : Setup → MessageText → Hop → (now : ℕ) → Option Answer → Type 0
 
--- where nothing is said of them: each is opened by the setup as it stands
+-- where nothing is said of them: each is opened by the setup as it stands, and there is no registrar
 abbrev pub open_all : Serving
 open_all = record {
   admits = λ opener admitted. Unit {0};
   decides = λ setup m source now decision. decision ≡ Opens setup;
-  registers = λ setup m source now decision. decision ≡ Opens setup;
+  registrar = false;
+  registers = λ setup m source now answer. answer ≡ None;
 }

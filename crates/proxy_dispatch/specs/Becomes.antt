@@ -1,14 +1,16 @@
 -- What becomes of a datagram that a proxy receives, what is seen of the table of calls meanwhile, and what is sent at once (RFC 3261
 -- sections 16.2, 16.7 step 1, 16.10, 16.11, 17.1.3, 17.2.3 and 18).
-use Rattle.std.specs.Prelude.{◌≡◌, ◌⊎◌, ℕ, Bool, true, false, List, [], ◌∷◌, Option, Some, None}
+use Rattle.std.specs.Prelude.{◌≡◌, ◌⊎◌, ℕ, Bool, true, false, List, [], ◌∷◌, Option, Some, None, Result, Ok, Err}
 use Rattle.sip_text.specs.Grammar.{IsText}
 use Rattle.sip_text.specs.Reading.{Fault, Short}
 use Rattle.sip_text.specs.Refusal.{IsRefused}
 use Rattle.sip_text.specs.Text.{MessageText}
 use Rattle.sip_uri.specs.declared.hop.Hop.{Hop}
 use Rattle.sip_via.specs.declared.branch.BranchName.{BranchName}
+use Rattle.sip_via.specs.declared.own.ViaFault.{ViaFault}
 use Rattle.sip_via.specs.BranchText.{IsBranch}
 use Rattle.sip_via.specs.OwnPass.{IsOwnBranch}
+use Rattle.sip_via.specs.Received.{marked}
 use Rattle.sip_via.specs.TopVia.{top_value}
 use Rattle.sip_route.specs.RequestKey.{request_key}
 use Rattle.sip_build.specs.declared.responses.OwnStatus.{OwnStatus}
@@ -176,24 +178,28 @@ AdmittedBecomes true serving setup m source now key looks handled sent = IsTold 
 AdmittedBecomes false serving setup m source now key looks handled sent =
     (decision : Decision) × serving.decides setup m source now decision × DecidedBecomes decision setup m source now key looks handled sent
 
--- a REGISTER for the domain: neither Max-Forwards nor Route values are looked at (section 10.3)
-abbrev pub RegisteredBecomes : Decision → Serving → Setup → MessageText → Hop → ℕ → List ℕ → List Look → Handled → Option Datagram → Type 0
-RegisteredBecomes (Opens moment) serving setup m source now key looks handled sent =
-    AdmittedBecomes false serving setup m source now key looks handled sent
-RegisteredBecomes (Answers answer) serving setup m source now key looks handled sent = (looks ≡ []) × IsAnsweredWith m source answer handled sent
-RegisteredBecomes Leaves serving setup m source now key looks handled sent = (looks ≡ []) × (handled ≡ Left) × (sent ≡ None)
+-- a REGISTER for the domain is answered by the registrar, or by another, or by nobody
+abbrev pub RegisteredBecomes : Option Answer → MessageText → Hop → List Look → Handled → Option Datagram → Type 0
+RegisteredBecomes (Some answer) m source looks handled sent = (looks ≡ []) × IsAnsweredWith m source answer handled sent
+RegisteredBecomes None m source looks handled sent = (looks ≡ []) × (handled ≡ Left) × (sent ≡ None)
 
--- by its top Via value, and by what it asks for (sections 10.3 steps 1 and 2 and 16.3 step 1)
-abbrev pub RegisteringBecomes : (via asks : Bool) → Serving → Setup → MessageText → Hop → ℕ → List ℕ → List Look → Handled → Option Datagram → Type 0
-RegisteringBecomes false asks serving setup m source now key looks handled sent = (looks ≡ []) × IsAnswered m source own.BadRequest handled sent
-RegisteringBecomes true true serving setup m source now key looks handled sent = (looks ≡ []) × IsAnswered m source own.BadExtension handled sent
-RegisteringBecomes true false serving setup m source now key looks handled sent =
-    (decision : Decision) × serving.registers setup m source now decision × RegisteredBecomes decision serving setup m source now key looks handled sent
+-- the registrar is shown the request with its source (section 18.2.1)
+abbrev pub MarkedBecomes : Result MessageText ViaFault → Serving → Setup → MessageText → Hop → ℕ → List Look → Handled → Option Datagram → Type 0
+MarkedBecomes (Ok with_source) serving setup m source now looks handled sent =
+    (answer : Option Answer) × serving.registers setup with_source source now answer × RegisteredBecomes answer m source looks handled sent
+MarkedBecomes (Err fault) serving setup m source now looks handled sent = (looks ≡ []) × IsAnswered m source own.BadRequest handled sent
+
+-- by its top Via value, and by what it asks for (sections 10.3 steps 1 and 2 and 16.3 step 1); neither Max-Forwards nor Route values are looked
+-- at
+abbrev pub RegisteringBecomes : (via asks : Bool) → Serving → Setup → MessageText → Hop → ℕ → List Look → Handled → Option Datagram → Type 0
+RegisteringBecomes false asks serving setup m source now looks handled sent = (looks ≡ []) × IsAnswered m source own.BadRequest handled sent
+RegisteringBecomes true true serving setup m source now looks handled sent = (looks ≡ []) × IsAnswered m source own.BadExtension handled sent
+RegisteringBecomes true false serving setup m source now looks handled sent = MarkedBecomes (marked m source) serving setup m source now looks handled sent
 
 -- by which request it is
 abbrev pub OpenerBecomes : Opener → Serving → Setup → MessageText → Hop → ℕ → List ℕ → List Look → Handled → Option Datagram → Type 0
 OpenerBecomes openers.Registering serving setup m source now key looks handled sent =
-    RegisteringBecomes (has_via m) (asks_extension m) serving setup m source now key looks handled sent
+    RegisteringBecomes (has_via m) (asks_extension m) serving setup m source now looks handled sent
 OpenerBecomes _ serving setup m source now key looks handled sent =
     AdmittedBecomes (asks_service setup m) serving setup m source now key looks handled sent
 
@@ -201,13 +207,13 @@ OpenerBecomes _ serving setup m source now key looks handled sent =
 abbrev pub AskedBecomes : (admitted : Bool) → Serving → Setup → MessageText → Hop → ℕ → List ℕ → List Look → Handled → Option Datagram → Type 0
 AskedBecomes false serving setup m source now key looks handled sent = IsTurnedAway m source looks handled sent
 AskedBecomes true serving setup m source now key looks handled sent =
-    OpenerBecomes (opener_of setup m) serving setup m source now key looks handled sent
+    OpenerBecomes (opener_of serving.registrar setup m) serving setup m source now key looks handled sent
 
 -- a request without a key is not well formed (section 16.3 step 1)
 abbrev pub NewBecomes : Serving → Setup → MessageText → Hop → ℕ → Option (List ℕ) → List Look → Handled → Option Datagram → Type 0
 NewBecomes serving setup m source now None looks handled sent = (looks ≡ []) × IsAnswered m source own.BadRequest handled sent
 NewBecomes serving setup m source now (Some key) looks handled sent =
-    (admitted : Bool) × serving.admits (opener_of setup m) admitted × AskedBecomes admitted serving setup m source now key looks handled sent
+    (admitted : Bool) × serving.admits (opener_of serving.registrar setup m) admitted × AskedBecomes admitted serving setup m source now key looks handled sent
 
 -- an ACK of an answer of the proxy's own is absorbed; any other goes on by the setup by which it would be opened, and else is dropped
 abbrev pub AckDecided : Decision → Setup → MessageText → Hop → Handled → Option Datagram → Type 0

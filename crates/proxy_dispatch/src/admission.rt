@@ -1,5 +1,5 @@
 //! Which requests may open calls, and what is decided of them.
-ghost use Rattle.std.specs.Prelude.{◌≡◌, IfOk, true};
+ghost use Rattle.std.specs.Prelude.{◌≡◌, ◌&&◌, IfOk, true};
 ghost use Rattle.proxy_config.specs.Setup as spec;
 ghost use Rattle.proxy_dispatch.specs.Admitting.{Serving, is_for_registrar, open_all, opener_of};
 ghost use Rattle.proxy_dispatch.specs.SeenDecision.{seen_decision};
@@ -20,7 +20,7 @@ pub enum Opener {
     OutsideDialog,
     /// One within a dialog.
     WithinDialog,
-    /// A REGISTER for the domain, which opens none but where there is no registrar (section 10.2).
+    /// A REGISTER for the domain, where there is a registrar: it opens none (section 10.2).
     Registering,
 }
 
@@ -71,7 +71,12 @@ pub trait Admission {
     ) -> Result<Decision<A>, AllocError>
         ensures { IfOk result (λ decision. (Self.serving self.now).decides setup.now request.now source now (seen_decision setup.now decision)) };
 
-    /// The same of a REGISTER for the domain.
+    /// Whether there is a registrar, which answers each REGISTER for the domain (RFC 3261 section 10.2).
+    fn has_registrar(&self) -> bool
+        ensures { result ≡ (Self.serving self.now).registrar };
+
+    /// How the registrar answers a REGISTER for the domain, which has its source (section 18.2.1); where nothing is said here, another
+    /// answers it, or nobody.
     ///
     /// # Errors
     ///
@@ -84,8 +89,8 @@ pub trait Admission {
         request: &Message<A>,
         source: Hop,
         now: u64,
-    ) -> Result<Decision<A>, AllocError>
-        ensures { IfOk result (λ decision. (Self.serving self.now).registers setup.now request.now source now (seen_decision setup.now decision)) };
+    ) -> Result<Option<OwnAnswer<A>>, AllocError>
+        ensures { IfOk result (λ answer. (Self.serving self.now).registers setup.now request.now source now answer) };
 }
 
 /// Admits every request, and opens each by the setup as it stands.
@@ -113,6 +118,10 @@ impl Admission for Unlimited {
         Ok(Decision::Opens)
     }
 
+    fn has_registrar(&self) -> bool {
+        false
+    }
+
     fn registers<A: Allocator + Clone, R: Wait>(
         &self,
         _rt: &R,
@@ -121,12 +130,12 @@ impl Admission for Unlimited {
         _request: &Message<A>,
         _source: Hop,
         _now: u64,
-    ) -> Result<Decision<A>, AllocError> {
-        Ok(Decision::Opens)
+    ) -> Result<Option<OwnAnswer<A>>, AllocError> {
+        Ok(None)
     }
 }
 
-/// Whether a request is a REGISTER for the domain, and the proxy is a service (RFC 3261 section 10.2).
+/// Whether a request is a REGISTER for the domain (RFC 3261 section 10.2).
 fn is_for_registrar<A: Allocator + Clone>(
     alloc: A,
     setup: &Setup<A>,
@@ -134,7 +143,7 @@ fn is_for_registrar<A: Allocator + Clone>(
 ) -> Result<bool, AllocError>
     ensures { IfOk result (λ is. is ≡ is_for_registrar setup.now request.now) }
 {
-    if !setup.is_for_a_service() || request.method().unwrap_or(b"") != b"REGISTER".as_slice() {
+    if request.method().unwrap_or(b"") != b"REGISTER".as_slice() {
         return Ok(false);
     }
     match SipUri::read(alloc, request_uri(request)) {
@@ -144,15 +153,31 @@ fn is_for_registrar<A: Allocator + Clone>(
     }
 }
 
+/// Whether a request is for the registrar, if there is one.
+fn registers<A: Allocator + Clone>(
+    alloc: A,
+    setup: &Setup<A>,
+    has_registrar: bool,
+    request: &Message<A>,
+) -> Result<bool, AllocError>
+    ensures { IfOk result (λ is. is ≡ (has_registrar && is_for_registrar setup.now request.now)) }
+{
+    if !has_registrar {
+        return Ok(false);
+    }
+    is_for_registrar(alloc, setup, request)
+}
+
 /// Which request this is.
 pub(crate) fn opener_of<A: Allocator + Clone>(
     alloc: A,
     setup: &Setup<A>,
+    has_registrar: bool,
     request: &Message<A>,
 ) -> Result<Opener, AllocError>
-    ensures { IfOk result (λ opener. opener ≡ opener_of setup.now request.now) }
+    ensures { IfOk result (λ opener. opener ≡ opener_of has_registrar setup.now request.now) }
 {
-    if is_for_registrar(alloc, setup, request)? {
+    if registers(alloc, setup, has_registrar, request)? {
         return Ok(Opener::Registering);
     }
     match request.to_tag() {

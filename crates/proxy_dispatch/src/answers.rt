@@ -1,10 +1,10 @@
 //! Requests that the proxy answers without a call.
-ghost use Rattle.std.specs.Prelude.{◌≡◌, ◌≢◌, [], IfOk, Some, true};
+ghost use Rattle.std.specs.Prelude.{◌≡◌, ◌≢◌, [], IfOk, Ok, Some, true};
 ghost use Rattle.std.specs.List.{list_all};
 ghost use Rattle.sip_text.specs.Message.{is_header};
 ghost use Rattle.sip_text.specs.Seen.{view_lines};
 ghost use Rattle.sip_text.specs.Text.{MessageText, spelling};
-ghost use Rattle.sip_via.specs.Received.{reply_of};
+ghost use Rattle.sip_via.specs.Received.{marked, reply_of};
 ghost use Rattle.sip_via.specs.TopVia.{top_value};
 ghost use Rattle.sip_via.specs.ViaParts.{via_of};
 ghost use Rattle.sip_build.specs.Generated.{code_of, generated_of};
@@ -105,30 +105,18 @@ pub(crate) fn answered<A: Allocator + Clone>(
     Ok(Outcome::sends(Handled::Answered(status.code()), datagram))
 }
 
-/// What becomes of a request that came from `source` and is answered so.
-pub(crate) fn answered_with<A: Allocator + Clone>(
-    alloc: A,
-    request: Message<A>,
-    source: Hop,
-    answer: &OwnAnswer<A>,
-) -> Result<Outcome<A>, AllocError>
-    ensures handled { IfOk result (λ outcome. outcome.handled ≡ handled.Answered (code_of answer.now.status)) }
-    ensures sent { IfOk result (λ outcome. seen_sent outcome.datagram ≡ Some (answer_of request source answer.now.status answer.now.lines)) }
-{
-    let lines = answer.further_lines(alloc.clone()?)?;
-    let datagram = answer_of(alloc, request, source, answer.status(), &lines)?;
-    Ok(Outcome::sends(Handled::Answered(answer.status().code()), datagram))
-}
-
 /// What becomes of a request that has its source and is answered so.
-pub(crate) fn prepared_answer<A: Allocator + Clone>(
+pub(crate) fn marked_answer<A: Allocator + Clone>(
     alloc: A,
     request: &Message<A>,
     source: Hop,
     answer: &OwnAnswer<A>,
 ) -> Result<Outcome<A>, AllocError>
     ensures handled { IfOk result (λ outcome. outcome.handled ≡ handled.Answered (code_of answer.now.status)) }
-    ensures sent { (setup : Setup) (m : MessageText) → IsPrepared setup m source request.now
+    // It is the answer to the request as it came, of which that one was marked with its source, and maybe prepared.
+    ensures marked { (m : MessageText) → marked m source ≡ Ok request.now
+        → IfOk result (λ outcome. seen_sent outcome.datagram ≡ Some (answer_of m source answer.now.status answer.now.lines)) }
+    ensures prepared { (setup : Setup) (m : MessageText) → IsPrepared setup m source request.now
         → IfOk result (λ outcome. seen_sent outcome.datagram ≡ Some (answer_of m source answer.now.status answer.now.lines)) }
 {
     stripping_keeps_answers();

@@ -14,6 +14,7 @@ mod delivery;
 mod outcome;
 mod purpose;
 mod received;
+mod registers;
 mod requests;
 mod responses;
 

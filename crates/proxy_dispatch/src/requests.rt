@@ -9,10 +9,9 @@ ghost use Rattle.proxy_config.specs.Setup as spec;
 ghost use Rattle.sip_text.specs.Text.{MessageText};
 ghost use Rattle.proxy_dispatch.specs.declared.purpose.RequestKind.TheVariants as purposes;
 ghost use Rattle.fork_call.specs.Prepared.{IsPreparedAs};
-ghost use Rattle.proxy_routing.specs.Admission.{asks_extension, has_via};
 ghost use Rattle.proxy_dispatch.specs.Admitting as decisions;
 ghost use Rattle.proxy_dispatch.specs.SeenDecision.{seen_decision};
-ghost use Rattle.proxy_dispatch.specs.Becomes.{AdmittedBecomes, DecidedBecomes, IsStopped, NewBecomes, OpenerBecomes, OpeningBecomes, RegisteringBecomes, RequestBecomes, UnknownBecomes};
+ghost use Rattle.proxy_dispatch.specs.Becomes.{AdmittedBecomes, DecidedBecomes, IsStopped, NewBecomes, OpenerBecomes, OpeningBecomes, RequestBecomes, UnknownBecomes};
 ghost use Rattle.proxy_dispatch.specs.Looks.{Look, shown, ShowsAll};
 ghost use Rattle.proxy_dispatch.specs.Purpose.{purpose_of};
 ghost use Rattle.proxy_dispatch.specs.inner.Becomes.{is_opened};
@@ -20,7 +19,7 @@ ghost use Rattle.proxy_dispatch.specs.inner.Sent.{seen_sent};
 
 use crate::acks::acknowledged;
 use crate::admission::{Admission, Decision, Opener, opener_of};
-use crate::answers::{answered, answered_with, prepared_answer, rejected, told, turned_away};
+use crate::answers::{answered, marked_answer, rejected, told, turned_away};
 use crate::asking::asks_service;
 use crate::calls::SharedCalls;
 use crate::datagrams::Handled;
@@ -28,10 +27,10 @@ use crate::delivery::deliver;
 use crate::outcome::Outcome;
 use crate::purpose::RequestKind;
 use crate::received::ReceivedMessage;
+use crate::registers::registered;
 use authentication::OwnAnswer;
 use call_table::PendingFault;
 use fork_call::{OpeningRequest, PendingCall, PreparedRequest, Setup, Unrouted, prepare};
-use proxy_routing::{asks_extension, has_via};
 use sip_build::OwnStatus;
 use sip_route::append_request_key;
 use sip_text::Message;
@@ -136,7 +135,7 @@ fn refused<A: Allocator + Clone>(
     let alloc = opening.alloc.clone()?;
     let source = opening.source;
     match prepared(setup, opening)? {
-        Ok(prepared) => prepared_answer(alloc, prepared.request(), source, answer),
+        Ok(prepared) => marked_answer(alloc, prepared.request(), source, answer),
         Err(outcome) => Ok(outcome),
     }
 }
@@ -210,55 +209,6 @@ fn opened<A: Allocator + Clone, N: Admission, R: Wait>(
     decided(rt, table, setup, key, opening, decision)
 }
 
-/// What becomes of a REGISTER for the domain (RFC 3261 section 10.3).
-fn registered<A: Allocator + Clone, N: Admission, R: Wait>(
-    rt: &R,
-    table: &mut SharedCalls<'_, A>,
-    setup: &Setup<A>,
-    admission: &N,
-    key: Vec<u8, A>,
-    received: ReceivedMessage<A>,
-) -> Result<Outcome<A>, AllocError>
-    requires { purpose_of received.message.start ≡ Some purposes.Opening }
-    ensures { IfOk result (λ outcome. (looks : List Look) × ShowsAll shown table.old looks table.new
-        × RegisteringBecomes (has_via received.message) (asks_extension received.message) (N.serving admission.now) setup.now
-        received.message received.source received.now key.items looks outcome.handled (seen_sent outcome.datagram)) }
-{
-    if !has_via(&received.message) {
-        return answered(
-            received.alloc,
-            received.message,
-            received.source,
-            OwnStatus::BadRequest,
-        );
-    }
-    if asks_extension(&received.message) {
-        return answered(
-            received.alloc,
-            received.message,
-            received.source,
-            OwnStatus::BadExtension,
-        );
-    }
-    let message = &received.message;
-    let decision = admission.registers(
-        rt,
-        &received.alloc,
-        setup,
-        message,
-        received.source,
-        received.now,
-    )?;
-    match decision {
-        Decision::Opens => opened(rt, table, setup, admission, key, received),
-        Decision::OpensBy(_) => opened(rt, table, setup, admission, key, received),
-        Decision::Answers(answer) => {
-            answered_with(received.alloc, received.message, received.source, &answer)
-        }
-        Decision::Leaves => Ok(Outcome::silent(Handled::Left)),
-    }
-}
-
 /// What becomes of a request that was admitted: the proxy answers an OPTIONS to itself (RFC 3261 section 11), a REGISTER for the domain
 /// is the registrar's, and of any other it is decided.
 fn admitted<A: Allocator + Clone, N: Admission, R: Wait>(
@@ -276,7 +226,7 @@ fn admitted<A: Allocator + Clone, N: Admission, R: Wait>(
         looks outcome.handled (seen_sent outcome.datagram)) }
 {
     if opener == Opener::Registering {
-        return registered(rt, table, setup, admission, key, received);
+        return registered(rt, setup, admission, received);
     }
     if asks_service(received.alloc.clone()?, setup, &received.message)? {
         return told(received.alloc, received.message, received.source);
@@ -310,7 +260,13 @@ fn asked<A: Allocator + Clone, N: Admission, R: Wait>(
         × NewBecomes (N.serving admission.now) setup.now received.message received.source received.now (Some key.items)
         looks outcome.handled (seen_sent outcome.datagram)) }
 {
-    let opener = opener_of(received.alloc.clone()?, setup, &received.message)?;
+    let has_registrar = admission.has_registrar();
+    let opener = opener_of(
+        received.alloc.clone()?,
+        setup,
+        has_registrar,
+        &received.message,
+    )?;
     if !admission.admits(rt, opener) {
         return turned_away(received.alloc, received.message, received.source);
     }

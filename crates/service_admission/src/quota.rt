@@ -6,6 +6,7 @@ ghost use Rattle.service_admission.specs.Quota.{limit};
 
 use crate::lifetime::Lifetime;
 use crate::places::CallQuota;
+use authentication::OwnAnswer;
 use fork_call::Setup;
 use proxy_dispatch::{Admission, Decision, Opener};
 use sip_text::Message;
@@ -125,6 +126,10 @@ impl Admission for QuotaAt<'_> {
         Ok(Decision::Opens)
     }
 
+    fn has_registrar(&self) -> bool {
+        false
+    }
+
     fn registers<A: Allocator + Clone, R: Wait>(
         &self,
         _rt: &R,
@@ -133,7 +138,7 @@ impl Admission for QuotaAt<'_> {
         _request: &Message<A>,
         _source: Hop,
         _now: u64,
-    ) -> Result<Decision<A>, AllocError> {
-        Ok(Decision::Opens)
+    ) -> Result<Option<OwnAnswer<A>>, AllocError> {
+        Ok(None)
     }
 }

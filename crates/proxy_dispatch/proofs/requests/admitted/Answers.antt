@@ -12,7 +12,7 @@ returns-then-opener-Registering g c =
     let r = c.args.received in
     let is : Registering ≡ c.args.opener = sym c.if-opener-Registering.true in
     IfOk-weaker c.registered.result _ _
-    (λ outcome h. (h.0, h.1, opener_at serving c.args.setup.now r.message r.source r.now c.args.key.items h.0 outcome.handled (seen_sent outcome.datagram) Registering c.args.opener is h.2))
+    (λ outcome h. ([], refl, opener_at serving c.args.setup.now r.message r.source r.now c.args.key.items [] outcome.handled (seen_sent outcome.datagram) Registering c.args.opener is h))
     c.registered.ensures
 
 pub returns-then-branch : goal.returns-then-branch

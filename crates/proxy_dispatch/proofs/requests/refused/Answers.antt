@@ -10,10 +10,10 @@ returns-in-Ok g c =
     let o = c.args.opening in
     let is = ok_at c.in_ok-prepared.field-0 (IsPreparedAs c.args.setup.now o.request o.source) c.in-Ok.prepared c.in-Ok.is c.in_ok-prepared.ensures.passed in
     let P : MessageText → Type 0 = λ x. IsPrepared c.args.setup.now o.request o.source x in
-    by_both c.prepared_answer.result _ _ _
+    by_both c.marked_answer.result _ _ _
     (λ outcome handled sent. inr (refl, (c.in-Ok.prepared, is), (handled, sent)))
-    c.prepared_answer.ensures.handled
-    (c.prepared_answer.ensures.sent c.args.setup.now o.request (subst P (sym c.request.ensures) is.admitted.prepared))
+    c.marked_answer.ensures.handled
+    (c.marked_answer.ensures.prepared c.args.setup.now o.request (subst P (sym c.request.ensures) is.admitted.prepared))
 
 pub returns-in-Err : goal.returns-in-Err
 returns-in-Err g c =

@@ -1,0 +1,34 @@
+use Rattle.proxy_dispatch.proofs.Common.{◌≡◌, ◌∙◌, List, Some, ap, subst, sym, Datagram, seen_sent}
+use Rattle.std.proofs.Common.{true}
+use Rattle.std.specs.List.{list_all}
+use Rattle.sip_text.specs.Message.{is_header}
+use Rattle.sip_text.specs.Text.{HeaderText}
+use Rattle.proxy_dispatch.specs.Sent.{answer_to}
+use Rattle.proxy_dispatch.proofs.Rejecting.{prepared_answer, with_source_answer}
+use Rattle.proxy_dispatch.proofs.answers.marked_answer.Goals as goal
+
+pub answer_to-requires : goal.answer_to-requires
+answer_to-requires g c =
+    subst (λ (ls : List HeaderText). list_all is_header ls ≡ true) (sym c.in_ok-lines.ensures.exact) c.in_ok-lines.ensures.good
+
+pub returns-clause-marked : goal.returns-clause-marked
+returns-clause-marked g c = λ m is.
+    let status = c.args.answer.now.status in
+    let lines = c.args.answer.now.lines in
+    ap seen_sent c.sends.ensures.sends
+    ∙ ap Some
+    (c.in_ok-datagram.ensures
+    ∙ ap (λ (ls : List HeaderText). answer_to c.args.request.now status ls c.reply_hop_of-to.result) c.in_ok-lines.ensures.exact
+    ∙ ap (answer_to c.args.request.now status lines) c.reply_hop_of-to.ensures
+    ∙ with_source_answer c.stripping_keeps_answers.ensures c.stripping_keeps_the_rest.ensures.others c.args.source status lines m c.args.request.now is)
+
+pub returns-clause-prepared : goal.returns-clause-prepared
+returns-clause-prepared g c = λ setup m is.
+    let status = c.args.answer.now.status in
+    let lines = c.args.answer.now.lines in
+    ap seen_sent c.sends.ensures.sends
+    ∙ ap Some
+    (c.in_ok-datagram.ensures
+    ∙ ap (λ (ls : List HeaderText). answer_to c.args.request.now status ls c.reply_hop_of-to.result) c.in_ok-lines.ensures.exact
+    ∙ ap (answer_to c.args.request.now status lines) c.reply_hop_of-to.ensures
+    ∙ prepared_answer c.stripping_keeps_answers.ensures c.stripping_keeps_the_rest.ensures.others c.args.source status lines setup m c.args.request.now is)

@@ -1,0 +1,22 @@
+use Rattle.proxy_dispatch.proofs.Common.{◌∙◌, Err, Ok, refl, sym, IfOk-weaker, seen_sent}
+use Rattle.sip_via.specs.Received.{marked}
+use Rattle.proxy_dispatch.proofs.Becoming.{marked_at, unmarked_at}
+use Rattle.proxy_dispatch.proofs.Outcomes.{by_both}
+use Rattle.proxy_dispatch.proofs.registers.asked.Goals as goal
+
+pub returns-in-Ok : goal.returns-in-Ok
+returns-in-Ok g c =
+    let serving = g.N.Admission.serving c.args.admission.now in
+    let r = c.args.received in
+    IfOk-weaker c.of_registrar.result _ _
+    (λ outcome h. marked_at serving c.args.setup.now r.message r.source r.now outcome.handled (seen_sent outcome.datagram) (marked r.message r.source) (Ok c.in-Ok.request) c.in-Ok.ensures.ok h)
+    (c.of_registrar.ensures r.message c.in-Ok.ensures.ok)
+
+pub returns-in-BadVia : goal.returns-in-BadVia
+returns-in-BadVia g c =
+    let serving = g.N.Admission.serving c.args.admission.now in
+    let r = c.args.received in
+    by_both c.answered.result _ _ _
+    (λ outcome handled sent. unmarked_at serving c.args.setup.now r.message c.in-Err.unmarked.message r.source r.now outcome.handled (seen_sent outcome.datagram) (marked r.message r.source)
+    (sym c.in-Err.ensures.refused ∙ c.in-BadVia.is) c.in-Err.ensures.err handled sent)
+    c.answered.ensures.handled c.answered.ensures.sent
