@@ -69,7 +69,8 @@ pub fn serves<R: Abort + Wait, P: Port>(
         | Handled::Absorbed
         | Handled::Answered(_)
         | Handled::TurnedAway
-        | Handled::Forwarded => Some(handled),
+        | Handled::Forwarded
+        | Handled::Left => Some(handled),
     }
 }
 
