@@ -44,7 +44,7 @@ impl Gate {
     }
 }
 
-impl Admission for Gate {
+impl<A: Allocator + Clone> Admission<A> for Gate {
     fn admits<R: Wait>(&self, _rt: &R, opener: Opener) -> bool {
         let asked = match opener {
             Opener::OutsideDialog | Opener::Registering => &self.outside,
@@ -58,7 +58,7 @@ impl Admission for Gate {
         self.released.fetch_add(1, Ordering::SeqCst);
     }
 
-    fn decides<A: Allocator + Clone, R: Wait>(
+    fn decides<R: Wait>(
         &self,
         _rt: &R,
         _alloc: &A,
@@ -74,7 +74,7 @@ impl Admission for Gate {
         false
     }
 
-    fn registers<A: Allocator + Clone, R: Wait>(
+    fn registers<R: Wait>(
         &self,
         _rt: &R,
         _alloc: &A,

@@ -66,7 +66,7 @@ fn decision_of<A: Allocator + Clone>(
     }
 }
 
-impl Admission for Decider {
+impl<A: Allocator + Clone> Admission<A> for Decider {
     ghost use Rattle.std.specs.Prelude.{is_some};
     ghost use Rattle.proxy_dispatch.specs.Admitting.{open_all};
 
@@ -82,7 +82,7 @@ impl Admission for Decider {
 
     fn release<R: Wait>(&self, _rt: &R) {}
 
-    fn decides<A: Allocator + Clone, R: Wait>(
+    fn decides<R: Wait>(
         &self,
         _rt: &R,
         alloc: &A,
@@ -98,7 +98,7 @@ impl Admission for Decider {
         self.registrar.is_some()
     }
 
-    fn registers<A: Allocator + Clone, R: Wait>(
+    fn registers<R: Wait>(
         &self,
         _rt: &R,
         alloc: &A,

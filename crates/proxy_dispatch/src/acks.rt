@@ -152,7 +152,7 @@ fn going<A: Allocator + Clone>(
 
 /// What becomes of an ACK that is for no call: it is absorbed where it acknowledges an answer of the proxy's own; any other goes on
 /// where it can and would be opened, and is dropped else (RFC 3261 sections 16.11 and 17.2.1).
-pub(crate) fn acknowledged<A: Allocator + Clone, N: Admission, R: Wait>(
+pub(crate) fn acknowledged<A: Allocator + Clone, N: Admission<A>, R: Wait>(
     rt: &R,
     setup: &Setup<A>,
     admission: &N,

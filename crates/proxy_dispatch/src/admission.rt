@@ -38,9 +38,9 @@ pub enum Decision<A: Allocator> {
     Leaves,
 }
 
-/// Who says which requests may open calls, and which do. It is asked for each request that would open one, once no call has its key,
-/// and for each ACK that no call has, and for no other datagram.
-pub trait Admission {
+/// Who says which requests may open calls, and which do, of a proxy whose calls have their memory from `A`. It is asked for each request
+/// that would open one, once no call has its key, and for each ACK that no call has, and for no other datagram.
+pub trait Admission<A: Allocator> {
     ghost use Rattle.proxy_dispatch.specs.Admitting.{Serving, open_all};
 
     /// What is said of requests.
@@ -60,7 +60,7 @@ pub trait Admission {
     /// # Errors
     ///
     /// Only where the allocator refuses.
-    fn decides<A: Allocator + Clone, R: Wait>(
+    fn decides<R: Wait>(
         &self,
         rt: &R,
         alloc: &A,
@@ -81,7 +81,7 @@ pub trait Admission {
     /// # Errors
     ///
     /// Only where the allocator refuses.
-    fn registers<A: Allocator + Clone, R: Wait>(
+    fn registers<R: Wait>(
         &self,
         rt: &R,
         alloc: &A,
@@ -97,7 +97,7 @@ pub trait Admission {
 #[derive(Clone, Copy, PartialEq, Eq, Debug)]
 pub struct Unlimited;
 
-impl Admission for Unlimited {
+impl<A: Allocator + Clone> Admission<A> for Unlimited {
     ghost serving = { λ _. record open_all { admits = λ _ admitted. admitted ≡ true } };
 
     fn admits<R: Wait>(&self, _rt: &R, _opener: Opener) -> bool {
@@ -106,7 +106,7 @@ impl Admission for Unlimited {
 
     fn release<R: Wait>(&self, _rt: &R) {}
 
-    fn decides<A: Allocator + Clone, R: Wait>(
+    fn decides<R: Wait>(
         &self,
         _rt: &R,
         _alloc: &A,
@@ -122,7 +122,7 @@ impl Admission for Unlimited {
         false
     }
 
-    fn registers<A: Allocator + Clone, R: Wait>(
+    fn registers<R: Wait>(
         &self,
         _rt: &R,
         _alloc: &A,

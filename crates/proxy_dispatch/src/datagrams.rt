@@ -46,7 +46,7 @@ pub enum Handled {
 }
 
 /// What becomes of a message.
-fn of_message<A: Allocator + Clone, N: Admission, R: Wait>(
+fn of_message<A: Allocator + Clone, N: Admission<A>, R: Wait>(
     rt: &R,
     table: &mut SharedCalls<'_, A>,
     setup: &Setup<A>,
@@ -131,7 +131,7 @@ fn hand<A: Allocator, P: Port>(port: &mut P, sent: &Option<Datagram<A>>)
 /// # Errors
 ///
 /// Only where the allocator refuses; no call has changed then, none was opened, and nothing was sent.
-pub fn handle_message<A: Allocator + Clone, N: Admission, P: Port, R: Wait>(
+pub fn handle_message<A: Allocator + Clone, N: Admission<A>, P: Port, R: Wait>(
     rt: &R,
     table: &mut SharedCalls<'_, A>,
     setup: &Setup<A>,
@@ -158,7 +158,7 @@ pub fn handle_message<A: Allocator + Clone, N: Admission, P: Port, R: Wait>(
 /// # Errors
 ///
 /// Only where the allocator refuses; no call has changed then, none was opened, and nothing was sent.
-pub fn handle<A: Allocator + Clone, N: Admission, P: Port, R: Wait>(
+pub fn handle<A: Allocator + Clone, N: Admission<A>, P: Port, R: Wait>(
     rt: &R,
     alloc: A,
     table: &mut SharedCalls<'_, A>,

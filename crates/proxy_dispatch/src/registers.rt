@@ -21,7 +21,7 @@ use std::alloc::{AllocError, Allocator};
 use std::sync::Wait;
 
 /// What becomes of a REGISTER that has its source.
-fn of_registrar<A: Allocator + Clone, N: Admission, R: Wait>(
+fn of_registrar<A: Allocator + Clone, N: Admission<A>, R: Wait>(
     rt: &R,
     setup: &Setup<A>,
     admission: &N,
@@ -40,7 +40,7 @@ fn of_registrar<A: Allocator + Clone, N: Admission, R: Wait>(
 }
 
 /// What becomes of a REGISTER for the domain whose top Via value can be read, and that asks for no extension.
-fn asked<A: Allocator + Clone, N: Admission, R: Wait>(
+fn asked<A: Allocator + Clone, N: Admission<A>, R: Wait>(
     rt: &R,
     setup: &Setup<A>,
     admission: &N,
@@ -66,7 +66,7 @@ fn asked<A: Allocator + Clone, N: Admission, R: Wait>(
 
 /// What becomes of a REGISTER for the domain: where its top Via value cannot be read, or it asks the proxy for an extension, it is
 /// answered by that; any other is the registrar's (RFC 3261 sections 10.3 and 16.3).
-pub(crate) fn registered<A: Allocator + Clone, N: Admission, R: Wait>(
+pub(crate) fn registered<A: Allocator + Clone, N: Admission<A>, R: Wait>(
     rt: &R,
     setup: &Setup<A>,
     admission: &N,

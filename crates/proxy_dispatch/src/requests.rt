@@ -180,7 +180,7 @@ fn decided<A: Allocator + Clone, R: Wait>(
 /// What becomes of a request that was admitted and is not the proxy's own to answer: what is decided of it, or it is answered with the
 /// status that tells what stops it.
 #[tactic(auto, using(crate::proofs::Purposes::opening_opens))]
-fn opened<A: Allocator + Clone, N: Admission, R: Wait>(
+fn opened<A: Allocator + Clone, N: Admission<A>, R: Wait>(
     rt: &R,
     table: &mut SharedCalls<'_, A>,
     setup: &Setup<A>,
@@ -211,7 +211,7 @@ fn opened<A: Allocator + Clone, N: Admission, R: Wait>(
 
 /// What becomes of a request that was admitted: the proxy answers an OPTIONS to itself (RFC 3261 section 11), a REGISTER for the domain
 /// is the registrar's, and of any other it is decided.
-fn admitted<A: Allocator + Clone, N: Admission, R: Wait>(
+fn admitted<A: Allocator + Clone, N: Admission<A>, R: Wait>(
     rt: &R,
     table: &mut SharedCalls<'_, A>,
     setup: &Setup<A>,
@@ -247,7 +247,7 @@ fn has_opened<A: Allocator>(outcome: &Result<Outcome<A>, AllocError>) -> bool
 
 /// What becomes of a request whose key no call has: it is turned away, or goes on as one that was admitted. Where it opens no call
 /// then, `admission` is told.
-fn asked<A: Allocator + Clone, N: Admission, R: Wait>(
+fn asked<A: Allocator + Clone, N: Admission<A>, R: Wait>(
     rt: &R,
     table: &mut SharedCalls<'_, A>,
     setup: &Setup<A>,
@@ -280,7 +280,7 @@ fn asked<A: Allocator + Clone, N: Admission, R: Wait>(
 /// What becomes of a request whose key no call has, or that has none: an ACK is absorbed or goes on, a CANCEL is answered 481, and
 /// any other request opens a call where it is admitted (RFC 3261 sections 9.2, 16.2 and 16.11). A request without a key is not well
 /// formed.
-fn unknown<A: Allocator + Clone, N: Admission, R: Wait>(
+fn unknown<A: Allocator + Clone, N: Admission<A>, R: Wait>(
     rt: &R,
     table: &mut SharedCalls<'_, A>,
     setup: &Setup<A>,
@@ -321,7 +321,7 @@ fn unknown<A: Allocator + Clone, N: Admission, R: Wait>(
 /// # Errors
 ///
 /// Only where the allocator refuses; no call has changed then, and none was opened.
-pub(crate) fn requested<A: Allocator + Clone, N: Admission, R: Wait>(
+pub(crate) fn requested<A: Allocator + Clone, N: Admission<A>, R: Wait>(
     rt: &R,
     table: &mut SharedCalls<'_, A>,
     setup: &Setup<A>,

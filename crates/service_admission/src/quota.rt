@@ -105,7 +105,7 @@ pub struct QuotaAt<'a> {
     pub now: u64,
 }
 
-impl Admission for QuotaAt<'_> {
+impl<A: Allocator + Clone> Admission<A> for QuotaAt<'_> {
     fn admits<R: Wait>(&self, rt: &R, opener: Opener) -> bool {
         self.quota.keep(rt, self.lifetime, opener, self.now)
     }
@@ -114,7 +114,7 @@ impl Admission for QuotaAt<'_> {
         self.quota.release(rt);
     }
 
-    fn decides<A: Allocator + Clone, R: Wait>(
+    fn decides<R: Wait>(
         &self,
         _rt: &R,
         _alloc: &A,
@@ -130,7 +130,7 @@ impl Admission for QuotaAt<'_> {
         false
     }
 
-    fn registers<A: Allocator + Clone, R: Wait>(
+    fn registers<R: Wait>(
         &self,
         _rt: &R,
         _alloc: &A,
