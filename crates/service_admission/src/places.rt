@@ -52,6 +52,14 @@ impl CallQuota {
         self.keep_below(most_within_dialog(self.most))
     }
 
+    /// Keeps a place for a request that opens no call, as long as it is in work: it gets one however many are taken.
+    pub fn keep_registering(&mut self) -> bool
+        ensures kept { OnTrue result ((self.old.taken < 18446744073709551615) × (self.new ≡ with_taken self.old (self.old.taken + 1))) }
+        ensures full { OnFalse result ((18446744073709551615 ≤ self.old.taken) × (self.new ≡ self.old)) }
+    {
+        self.keep_below(u64::MAX)
+    }
+
     /// Keeps a place where fewer than so many are taken.
     fn keep_below(&mut self, most: u64) -> bool
         ensures kept { OnTrue result ((self.old.taken < most) × (self.new ≡ with_taken self.old (self.old.taken + 1))) }

@@ -24,8 +24,9 @@ fn keep_for(places: &mut CallQuota, opener: Opener) -> bool
     ensures full { OnFalse result ((limit opener places.old.most ≤ places.old.taken) × (places.new ≡ places.old)) }
 {
     match opener {
-        Opener::OutsideDialog | Opener::Registering => places.keep(),
+        Opener::OutsideDialog => places.keep(),
         Opener::WithinDialog => places.keep_within_dialog(),
+        Opener::Registering => places.keep_registering(),
     }
 }
 
