@@ -68,11 +68,12 @@ impl Quota {
     }
 
     /// Keeps a place for what such a request may open, and says whether there is one. The request is counted before it is asked whether the
-    /// service still opens calls, so that who has told it to stop sees the request, or the request sees that.
+    /// service still opens calls, so that who has told it to stop sees the request, or the request sees that. One that opens no call is not
+    /// refused for want of memory before.
     fn keep<R: Wait>(&self, rt: &R, lifetime: &Lifetime, opener: Opener, now: u64) -> bool {
         self.in_work.fetch_add(1, Ordering::SeqCst);
         let is_kept = lifetime.opens(opener)
-            && self.is_open(now)
+            && (opener == Opener::Registering || self.is_open(now))
             && keep_for(&mut self.places.lock(rt), opener);
         if !is_kept {
             self.in_work.fetch_sub(1, Ordering::SeqCst);

@@ -256,15 +256,18 @@ fn line_ends_alone_keep_a_path_open(rt: HostRuntime) {
     }
 }
 
-/// Whether two places are kept, a third for a request within a dialog alone, and one more only once two are given back.
+/// Whether two places are kept, a third for a request within a dialog alone, one more for a request that opens no call, and another one only
+/// once two are given back.
 fn are_kept() -> bool {
     let mut places = CallQuota::new(2);
     let kept = places.keep() && places.keep() && !places.keep();
     let beyond = places.keep_within_dialog() && !places.keep_within_dialog();
+    let registering = places.keep_registering();
+    places.give_back();
     places.give_back();
     let full = !places.keep();
     places.give_back();
-    kept && beyond && full && places.keep() && !places.keep()
+    kept && beyond && registering && full && places.keep() && !places.keep()
 }
 
 #[test]
