@@ -2,6 +2,7 @@
 use Rattle.proxy_dispatch.proofs.Common.{◌≡◌, ◌∙◌, [], ◌∷◌, ℕ, List, Option, Some, None, Result, Ok, Err, refl, sym, subst, ap, inl, inr, Serving, MessageText, Hop, Own, ViaFault, request_key, Setup, IsAdmitted, RequestKind, Passes, Look, Handled, Datagram, Call}
 use Rattle.std.proofs.Common.{Bool, true, false, ◌++◌}
 use Rattle.std.specs.Prelude.{IfOk, option_map}
+use Rattle.std.proofs.lemmas.Bool.{false≢true}
 use Rattle.sip_via.specs.OwnVia.{over}
 use Rattle.sip_text.specs.Fault.{FailsAs}
 use Rattle.sip_text.specs.Refusal.{IsRefused}
@@ -31,7 +32,7 @@ use Rattle.proxy_dispatch.specs.Becomes.{AckDecided, AdmittedBecomes, AskedBecom
 use Rattle.proxy_dispatch.specs.Looks.{Found, Shows, ShowsAll}
 use Rattle.proxy_dispatch.specs.declared.admission.Opener.{Opener}
 use Rattle.proxy_dispatch.specs.declared.admission.Opener.TheVariants as openers
-use Rattle.proxy_dispatch.specs.inner.Becomes.{ToldBecomes}
+use Rattle.proxy_dispatch.specs.inner.Becomes.{ToldBecomes, is_registering}
 use Rattle.proxy_dispatch.specs.Passing.{GoesOn, HasOwnTag}
 use Rattle.proxy_dispatch.specs.Purpose.{purpose_of}
 use Rattle.proxy_dispatch.specs.declared.purpose.RequestKind.TheVariants as purposes
@@ -94,6 +95,15 @@ pub opener_at : (serving : Serving) (setup : Setup) (m : MessageText) (source : 
 opener_at serving setup m source now key looks handled sent opener other e h =
     let P : Opener → Type 0 = λ x. OpenerBecomes x serving setup m source now key looks handled sent in
     subst P e h
+
+-- whether it is a REGISTER for the domain
+pub registering_is : (opener : Opener) → is_registering opener ≡ true → openers.Registering ≡ opener
+registering_is openers.Registering e = refl
+registering_is openers.OutsideDialog e = absurd (false≢true e)
+registering_is openers.WithinDialog e = absurd (false≢true e)
+
+pub other_is : (opener : Opener) → is_registering opener ≡ false → opener ≡ openers.Registering → ⊥
+other_is opener e is = false≢true (sym e ∙ ap is_registering is)
 
 -- any but a REGISTER for the domain
 pub not_registering : (serving : Serving) (setup : Setup) (m : MessageText) (source : Hop) (now : ℕ) (key : List ℕ) (looks : List Look) (handled : Handled) (sent : Option Datagram) (opener : Opener)

@@ -14,7 +14,7 @@ ghost use Rattle.proxy_dispatch.specs.SeenDecision.{seen_decision};
 ghost use Rattle.proxy_dispatch.specs.Becomes.{AdmittedBecomes, DecidedBecomes, IsStopped, NewBecomes, OpenerBecomes, OpeningBecomes, RequestBecomes, UnknownBecomes};
 ghost use Rattle.proxy_dispatch.specs.Looks.{Look, shown, ShowsAll};
 ghost use Rattle.proxy_dispatch.specs.Purpose.{purpose_of};
-ghost use Rattle.proxy_dispatch.specs.inner.Becomes.{is_opened};
+ghost use Rattle.proxy_dispatch.specs.inner.Becomes.{is_opened, is_registering};
 ghost use Rattle.proxy_dispatch.specs.inner.Sent.{seen_sent};
 
 use crate::acks::acknowledged;
@@ -209,6 +209,13 @@ fn opened<A: Allocator + Clone, N: Admission<A>, R: Wait>(
     decided(rt, table, setup, key, opening, decision)
 }
 
+/// Whether it is a REGISTER for the domain that the request would do.
+fn is_registering(opener: Opener) -> bool
+    ensures { result ≡ is_registering opener }
+{
+    matches!(opener, Opener::Registering)
+}
+
 /// What becomes of a request that was admitted: the proxy answers an OPTIONS to itself (RFC 3261 section 11), a REGISTER for the domain
 /// is the registrar's, and of any other it is decided.
 fn admitted<A: Allocator + Clone, N: Admission<A>, R: Wait>(
@@ -225,7 +232,7 @@ fn admitted<A: Allocator + Clone, N: Admission<A>, R: Wait>(
         × OpenerBecomes opener (N.serving admission.now) setup.now received.message received.source received.now key.items
         looks outcome.handled (seen_sent outcome.datagram)) }
 {
-    if opener == Opener::Registering {
+    if is_registering(opener) {
         return registered(rt, setup, admission, received);
     }
     if asks_service(received.alloc.clone()?, setup, &received.message)? {

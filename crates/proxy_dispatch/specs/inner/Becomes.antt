@@ -8,6 +8,8 @@ use Rattle.sip_uri.specs.declared.hop.Hop.{Hop}
 use Rattle.proxy_config.specs.Setup.{Setup}
 use Rattle.call_model.specs.Built.{Datagram}
 use Rattle.proxy_routing.specs.declared.fault.RequestRejection.{RequestRejection}
+use Rattle.proxy_dispatch.specs.declared.admission.Opener.{Opener}
+use Rattle.proxy_dispatch.specs.declared.admission.Opener.TheVariants.{OutsideDialog, Registering, WithinDialog}
 use Rattle.proxy_dispatch.specs.declared.datagrams.Handled.{Handled}
 use Rattle.proxy_dispatch.specs.declared.datagrams.Handled.TheVariants.{Opened}
 use Rattle.proxy_dispatch.specs.Becomes.{FaultBecomes, IsRejected}
@@ -22,6 +24,12 @@ ToldBecomes (Some fault) source handled sent = FaultBecomes fault source handled
 abbrev pub is_opened : Handled → Bool
 is_opened (Opened number) = true
 is_opened _ = false
+
+-- it is a REGISTER for the domain
+abbrev pub is_registering : Opener → Bool
+is_registering Registering = true
+is_registering OutsideDialog = false
+is_registering WithinDialog = false
 
 -- by this reason
 abbrev pub IsRejectedBy : Setup → MessageText → Hop → RequestRejection → List Look → Handled → Option Datagram → Type 0

@@ -9,9 +9,6 @@ use Rattle.proxy_dispatch.proofs.acks.acknowledged.Goals as goal
 pub going-requires-clause-other : goal.going-requires-clause-other
 going-requires-clause-other g c = λ h. false≢true (sym c.if-has_own_tag.false ∙ c.has_own_tag.ensures.1 h)
 
-pub going-in-OpensBy-requires-clause-other : goal.going-in-OpensBy-requires-clause-other
-going-in-OpensBy-requires-clause-other g c = λ h. false≢true (sym c.if-has_own_tag.false ∙ c.has_own_tag.ensures.1 h)
-
 pub returns-then-has_own_tag : goal.returns-then-has_own_tag
 returns-then-has_own_tag g c = (refl, inl (c.has_own_tag.ensures.0 c.if-has_own_tag.true, c.silent.ensures.handled, ap seen_sent c.silent.ensures.silent))
 

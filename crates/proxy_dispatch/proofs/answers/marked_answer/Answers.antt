@@ -2,6 +2,8 @@ use Rattle.proxy_dispatch.proofs.Common.{◌≡◌, ◌∙◌, List, Some, ap, s
 use Rattle.std.proofs.Common.{true}
 use Rattle.std.specs.List.{list_all}
 use Rattle.sip_text.specs.Message.{is_header}
+use Rattle.sip_build.specs.declared.responses.OwnStatus.{OwnStatus}
+use Rattle.sip_text.specs.Seen.{view_lines}
 use Rattle.sip_text.specs.Text.{HeaderText}
 use Rattle.proxy_dispatch.specs.Sent.{answer_to}
 use Rattle.proxy_dispatch.proofs.Rejecting.{prepared_answer, with_source_answer}
@@ -9,7 +11,7 @@ use Rattle.proxy_dispatch.proofs.answers.marked_answer.Goals as goal
 
 pub answer_to-requires : goal.answer_to-requires
 answer_to-requires g c =
-    subst (λ (ls : List HeaderText). list_all is_header ls ≡ true) (sym c.in_ok-lines.ensures.exact) c.in_ok-lines.ensures.good
+    subst (λ (ls : List HeaderText). list_all is_header ls ≡ true) (sym (ap view_lines c.deref.ensures.value ∙ c.in_ok-lines.ensures.exact)) c.in_ok-lines.ensures.good
 
 pub returns-clause-marked : goal.returns-clause-marked
 returns-clause-marked g c = λ m is.
@@ -18,7 +20,8 @@ returns-clause-marked g c = λ m is.
     ap seen_sent c.sends.ensures.sends
     ∙ ap Some
     (c.in_ok-datagram.ensures
-    ∙ ap (λ (ls : List HeaderText). answer_to c.args.request.now status ls c.reply_hop_of-to.result) c.in_ok-lines.ensures.exact
+    ∙ ap (λ (s : OwnStatus). answer_to c.args.request.now s (view_lines c.deref.result.now) c.reply_hop_of-to.result) c.status.ensures
+    ∙ ap (λ (ls : List HeaderText). answer_to c.args.request.now status ls c.reply_hop_of-to.result) (ap view_lines c.deref.ensures.value ∙ c.in_ok-lines.ensures.exact)
     ∙ ap (answer_to c.args.request.now status lines) c.reply_hop_of-to.ensures
     ∙ with_source_answer c.stripping_keeps_answers.ensures c.stripping_keeps_the_rest.ensures.others c.args.source status lines m c.args.request.now is)
 
@@ -29,6 +32,7 @@ returns-clause-prepared g c = λ setup m is.
     ap seen_sent c.sends.ensures.sends
     ∙ ap Some
     (c.in_ok-datagram.ensures
-    ∙ ap (λ (ls : List HeaderText). answer_to c.args.request.now status ls c.reply_hop_of-to.result) c.in_ok-lines.ensures.exact
+    ∙ ap (λ (s : OwnStatus). answer_to c.args.request.now s (view_lines c.deref.result.now) c.reply_hop_of-to.result) c.status.ensures
+    ∙ ap (λ (ls : List HeaderText). answer_to c.args.request.now status ls c.reply_hop_of-to.result) (ap view_lines c.deref.ensures.value ∙ c.in_ok-lines.ensures.exact)
     ∙ ap (answer_to c.args.request.now status lines) c.reply_hop_of-to.ensures
     ∙ prepared_answer c.stripping_keeps_answers.ensures c.stripping_keeps_the_rest.ensures.others c.args.source status lines setup m c.args.request.now is)

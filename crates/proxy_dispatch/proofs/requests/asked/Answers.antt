@@ -9,7 +9,7 @@ pub returns-then-not-admits : goal.returns-then-not-admits
 returns-then-not-admits g c =
     let serving = g.N.Admission.serving c.args.admission.now in
     let m = c.args.received.message in
-    let opens : c.in_ok-opener.opener ≡ opener_of serving.registrar c.args.setup.now m = c.in_ok-opener.ensures ∙ ap (λ (b : Bool). opener_of b c.args.setup.now m) c.has_registrar.ensures in
+    let opens : c.in_ok-opener.opener ≡ opener_of serving.registrar c.args.setup.now m = c.in_ok-opener.ensures ∙ ap (λ (b : Bool). opener_of b c.args.setup.now m) c.has_registrar-has_registrar.ensures in
     let said : c.admits.result ≡ false = let a = c.if-not-admits.true in cc in
     by_both c.turned_away.result _ _ _
     (λ outcome handled sent. (
@@ -24,7 +24,7 @@ pub returns-then-not-has_opened : goal.returns-then-not-has_opened
 returns-then-not-has_opened g c =
     let serving = g.N.Admission.serving c.args.admission.now in
     let m = c.args.received.message in
-    let opens : c.in_ok-opener.opener ≡ opener_of serving.registrar c.args.setup.now m = c.in_ok-opener.ensures ∙ ap (λ (b : Bool). opener_of b c.args.setup.now m) c.has_registrar.ensures in
+    let opens : c.in_ok-opener.opener ≡ opener_of serving.registrar c.args.setup.now m = c.in_ok-opener.ensures ∙ ap (λ (b : Bool). opener_of b c.args.setup.now m) c.has_registrar-has_registrar.ensures in
     let said : c.admits.result ≡ true = let a = c.if-not-admits.false in cc in
     IfOk-weaker c.admitted-outcome.result _ _
     (λ outcome h. (
@@ -40,7 +40,7 @@ pub returns-else-not-has_opened : goal.returns-else-not-has_opened
 returns-else-not-has_opened g c =
     let serving = g.N.Admission.serving c.args.admission.now in
     let m = c.args.received.message in
-    let opens : c.in_ok-opener.opener ≡ opener_of serving.registrar c.args.setup.now m = c.in_ok-opener.ensures ∙ ap (λ (b : Bool). opener_of b c.args.setup.now m) c.has_registrar.ensures in
+    let opens : c.in_ok-opener.opener ≡ opener_of serving.registrar c.args.setup.now m = c.in_ok-opener.ensures ∙ ap (λ (b : Bool). opener_of b c.args.setup.now m) c.has_registrar-has_registrar.ensures in
     let said : c.admits.result ≡ true = let a = c.if-not-admits.false in cc in
     IfOk-weaker c.admitted-outcome.result _ _
     (λ outcome h. (

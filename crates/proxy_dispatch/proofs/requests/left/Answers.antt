@@ -8,10 +8,5 @@ use Rattle.proxy_dispatch.proofs.requests.left.Goals as goal
 pub returns-in-Ok : goal.returns-in-Ok
 returns-in-Ok g c =
     let o = c.args.opening in
-    let is = ok_at c.in_ok-prepared.field-0 (IsPreparedAs c.args.setup.now o.request o.source) c.in-Ok.prepared c.in-Ok.is c.in_ok-prepared.ensures.passed in
-    inr (refl, (c.in-Ok.prepared, is), c.silent.ensures.handled, ap seen_sent c.silent.ensures.silent)
-
-pub returns-in-Err : goal.returns-in-Err
-returns-in-Err g c =
-    let o = c.args.opening in
-    inl (err_at c.in_ok-prepared.field-0 (λ outcome. IsStopped c.args.setup.now o.request o.source [] outcome.handled (seen_sent outcome.datagram)) c.in-Err.outcome c.in-Err.is c.in_ok-prepared.ensures.stopped)
+    let is = ok_at c.in_ok-prepared.field-0 (IsPreparedAs c.args.setup.now o.request o.source) c.in-Ok.field-0 c.in-Ok.is c.in_ok-prepared.ensures.passed in
+    inr (refl, (c.in-Ok.field-0, is), c.silent.ensures.handled, ap seen_sent c.silent.ensures.silent)

@@ -9,9 +9,9 @@ rejected-requires g c =
     no_memory c.args.setup.now o.request o.source c.in-Rejected.fault c.in-Rejected.request
     (rejected_at (IsStoppedFor c.args.setup.now o.request o.source) c.in-Err.why c.in-Rejected.fault c.in-Rejected.request c.in-Rejected.is c.in-Err.ensures.refused).1
 
-pub returns-in-Rejected-clause-stopped : goal.returns-in-Rejected-clause-stopped
-returns-in-Rejected-clause-stopped g c =
+pub returns-in_ok-rejected-in-Rejected-clause-stopped : goal.returns-in_ok-rejected-in-Rejected-clause-stopped
+returns-in_ok-rejected-in-Rejected-clause-stopped g c =
     let o = c.args.opening in
-    let outcome = c.in_ok-rejected.field-0 in
+    let outcome = c.in_ok-rejected-in-Rejected.field-0 in
     let by = rejected_at (IsStoppedFor c.args.setup.now o.request o.source) c.in-Err.why c.in-Rejected.fault c.in-Rejected.request c.in-Rejected.is c.in-Err.ensures.refused in
-    stopped_by c.args.setup.now o.request o.source c.in-Rejected.fault outcome.handled (seen_sent outcome.datagram) by.0 (c.in_ok-rejected.ensures c.args.setup.now o.request by.1)
+    stopped_by c.args.setup.now o.request o.source c.in-Rejected.fault outcome.handled (seen_sent outcome.datagram) by.0 (c.in_ok-rejected-in-Rejected.ensures c.args.setup.now o.request by.1)
