@@ -21,6 +21,6 @@ mod transaction;
 
 pub use fault::PostFault;
 pub use look::BranchView;
-pub use matching::{match_response, match_transaction};
+pub use matching::{match_request, match_response, match_transaction};
 pub use state::CallState;
 pub use transaction::MatchedTransaction;

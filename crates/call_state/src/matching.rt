@@ -1,6 +1,7 @@
 //! Which transaction of a call a message belongs to.
-ghost use Rattle.std.specs.Prelude.{◌≡◌, ◌<◌, ◌^◌, ◌&&◌, ℕ, codes, true, IfNone, IfSome, Some};
-ghost use Rattle.sip_text.specs.Fields.{message_cseq};
+ghost use Rattle.std.specs.Prelude.{◌≡◌, ◌≢◌, ◌<◌, ◌^◌, ◌&&◌, ℕ, codes, false, true, IfNone, IfSome, None, Option, Some, option_map};
+ghost use Rattle.sip_text.specs.Fields.{CSeqText};
+ghost use Rattle.sip_route.specs.RequestKey.{request_key};
 ghost use Rattle.sip_via.specs.BranchText.{IsBranch};
 ghost use Rattle.sip_via.specs.TopVia.{top_value};
 ghost use Rattle.call_model.specs.Call.{is_cancel_sent, is_sent};
@@ -12,7 +13,7 @@ ghost use Rattle.call_state.specs.SeenMatchedTransaction.{seen_recipient};
 
 use crate::state::CallState;
 use crate::transaction::MatchedTransaction;
-use sip_route::has_same_key;
+use sip_route::{has_key, has_same_key};
 use sip_text::{Message, Method, StartLine};
 use sip_via::{BranchName, has_second_via, own_branch};
 use std::alloc::Allocator;
@@ -62,11 +63,12 @@ fn is_response<A: Allocator>(message: &Message<A>) -> bool
     }
 }
 
-/// Whether a response answers a request with this method.
-fn is_to_method<A: Allocator>(message: &Message<A>, method: &[u8]) -> bool
-    ensures { result ≡ is_to_method method.now (message_cseq message.now.headers) }
+/// Whether a response whose CSeq names the method `to` answers a request with this method.
+fn is_to_method(to: &[u8], method: &[u8]) -> bool
+    ensures { (cseq : Option CSeqText) → option_map (λ (c : CSeqText). c.method) cseq ≡ Some to.now
+        → result ≡ is_to_method method.now cseq }
 {
-    message.cseq_method() == method
+    to == method
 }
 
 /// The method of the request that the call was opened with.
@@ -79,25 +81,26 @@ fn opening_method<A: Allocator + Clone>(state: &CallState<A>) -> &[u8]
     }
 }
 
-/// Whether a response on branch n is for the client transaction of the request, which was sent. A response with a
-/// single Via value, with no `second`, was meant for the proxy itself (RFC 3261 section 16.7 step 3).
+/// Whether a response on branch n whose CSeq names the method `to` is for the client transaction of the request, which was sent. A
+/// response with a single Via value, with no `second`, was meant for the proxy itself (RFC 3261 section 16.7 step 3).
 fn is_for_client<A: Allocator + Clone>(
     state: &CallState<A>,
-    message: &Message<A>,
+    to: &[u8],
     second: bool,
     n: u16,
 ) -> bool
-    ensures { result ≡ (is_to_method (method_of state.now.opened.request.start) (message_cseq message.now.headers)
-        && second && is_sent state.now n) }
+    ensures { (cseq : Option CSeqText) → option_map (λ (c : CSeqText). c.method) cseq ≡ Some to.now
+        → result ≡ (is_to_method (method_of state.now.opened.request.start) cseq && second && is_sent state.now n) }
 {
-    is_to_method(message, opening_method(state)) && second && state.is_sent(n)
+    is_to_method(to, opening_method(state)) && second && state.is_sent(n)
 }
 
-/// Whether a response on branch n is for the client transaction of the CANCEL, which was sent.
-fn is_for_cancel<A: Allocator + Clone>(state: &CallState<A>, message: &Message<A>, n: u16) -> bool
-    ensures { result ≡ (is_to_method (codes "CANCEL") (message_cseq message.now.headers) && is_cancel_sent state.now n) }
+/// Whether a response on branch n whose CSeq names the method `to` is for the client transaction of the CANCEL, which was sent.
+fn is_for_cancel<A: Allocator + Clone>(state: &CallState<A>, to: &[u8], n: u16) -> bool
+    ensures { (cseq : Option CSeqText) → option_map (λ (c : CSeqText). c.method) cseq ≡ Some to.now
+        → result ≡ (is_to_method (codes "CANCEL") cseq && is_cancel_sent state.now n) }
 {
-    is_to_method(message, b"CANCEL") && state.is_cancel_sent(n)
+    is_to_method(to, b"CANCEL") && state.is_cancel_sent(n)
 }
 
 /// Shows that the branches of a call are bounded.
@@ -123,11 +126,12 @@ pub fn match_response<A: Allocator + Clone>(
     let call = state.opened().branch(0);
     are_branches(call);
     let n = target_of(branch, call)?;
+    let to = response.cseq_method();
     let second = has_second_via(response);
-    if is_for_client(state, response, second, n) {
+    if is_for_client(state, to, second, n) {
         return Some(MatchedTransaction::Client(n));
     }
-    if is_for_cancel(state, response, n) {
+    if is_for_cancel(state, to, n) {
         return Some(MatchedTransaction::CancelClient(n));
     }
     None
@@ -148,8 +152,28 @@ fn response_recipient<A: Allocator + Clone>(
     match_response(state, message, branch)
 }
 
-/// The part that a request plays in the caller's transaction: it has the key of the call's own request, and is that
-/// request again, its ACK or its CANCEL (RFC 3261 sections 9.2 and 17.2.3).
+/// The part that a request with the key of the call's own request plays in the caller's transaction: it is that request again, its ACK
+/// or its CANCEL (RFC 3261 sections 9.2 and 17.2.3).
+fn part_of<A: Allocator + Clone>(
+    state: &CallState<A>,
+    message: &Message<A>,
+) -> Option<MatchedTransaction>
+    requires keyed { request_key message.now ≢ None }
+    requires same { request_key message.now ≡ request_key state.now.opened.request }
+    ensures found { IfSome result (λ r. BelongsTo state.now message.now (seen_recipient r)) }
+    ensures none { IfNone result (BelongsToNoServer state.now message.now) }
+{
+    if is_request_of(message, opening_method(state)) {
+        return Some(MatchedTransaction::Server);
+    }
+    match message.known_method() {
+        Some(Method::Ack) => Some(MatchedTransaction::ServerAck),
+        Some(Method::Cancel) => Some(MatchedTransaction::ServerCancel),
+        Some(Method::Invite | Method::Options | Method::Other) | None => None,
+    }
+}
+
+/// The part that a request plays in the caller's transaction.
 fn request_recipient<A: Allocator + Clone>(
     state: &CallState<A>,
     message: &Message<A>,
@@ -160,14 +184,39 @@ fn request_recipient<A: Allocator + Clone>(
     if !has_same_key(message, state.opened().request()) {
         return None;
     }
-    if is_request_of(message, opening_method(state)) {
-        return Some(MatchedTransaction::Server);
+    part_of(state, message)
+}
+
+/// The part that a request with this key plays in the caller's transaction.
+fn keyed_recipient<A: Allocator + Clone>(
+    state: &CallState<A>,
+    message: &Message<A>,
+    key: &[u8],
+) -> Option<MatchedTransaction>
+    requires { request_key message.now ≡ Some key.now }
+    ensures found { IfSome result (λ r. BelongsTo state.now message.now (seen_recipient r)) }
+    ensures none { IfNone result (BelongsToNoServer state.now message.now) }
+{
+    if !has_key(state.opened().request(), key) {
+        return None;
     }
-    match message.known_method() {
-        Some(Method::Ack) => Some(MatchedTransaction::ServerAck),
-        Some(Method::Cancel) => Some(MatchedTransaction::ServerCancel),
-        Some(Method::Invite | Method::Options | Method::Other) | None => None,
-    }
+    part_of(state, message)
+}
+
+/// The transaction of a call that a request is for, which has this key: as [`match_transaction`] finds it, and the key is not read
+/// again (RFC 3261 sections 9.2 and 17.2.3). The search takes no memory.
+#[tactic(auto, using(crate::proofs::Matched::to_none, crate::proofs::Matched::no_response))]
+pub fn match_request<A: Allocator + Clone>(
+    state: &CallState<A>,
+    request: &Message<A>,
+    key: &[u8],
+) -> Option<MatchedTransaction>
+    requires request { is_response request.now.start ≡ false }
+    requires key { request_key request.now ≡ Some key.now }
+    ensures found { IfSome result (λ r. BelongsTo state.now request.now (seen_recipient r)) }
+    ensures none { IfNone result (BelongsToNone state.now request.now) }
+{
+    keyed_recipient(state, request, key)
 }
 
 /// The transaction of a call that a message is for, if there is one. A request is for the caller's transaction where it

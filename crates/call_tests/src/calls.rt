@@ -1,17 +1,18 @@
 //! A call from its request on.
 use crate::holds::holds;
 use crate::recipients::{
-    CALLER, CANCELLING, FIRST, INVITE, INVITING, NO_VIA, OKAY, RINGING, SECOND, SETUP, is_response,
-    message_of,
+    CALLER, CANCELLING, FIRST, INVITE, INVITING, KEY, NO_VIA, OKAY, RINGING, SECOND, SETUP,
+    is_response, message_of,
 };
 use crate::requests::{SOURCE, opening_of, setup_of};
 use call_table::{Pending, Shelf};
 use fork_call::{
-    Call, Cause, Datagram, PendingCall, Setup, Step, TakeFault, Taken, is_openable, prepare,
+    Call, Cause, Datagram, PendingCall, Setup, Step, TakeFault, Taken, is_openable, prepare_read,
 };
+use sip_route::has_key;
 use sip_text::Message;
 use sip_uri::{Hop, Transport};
-use sip_via::own_branch;
+use sip_via::{TopVia, own_branch};
 use std::alloc::Global;
 use std::process::Abort;
 use std::sync::Wait;
@@ -112,6 +113,8 @@ enum Turn {
     Takes(&'static [u8], (&'static [u8], &'static [u8]), &'static [u8], Result<Taken, TakeFault>),
     /// Such a response is taken so, whose branch was read before.
     Answers(&'static [u8], (&'static [u8], &'static [u8]), &'static [u8], Result<Taken, TakeFault>),
+    /// Such a request of the caller's is taken so, of whose top Via value was read before.
+    Asks(&'static [u8], (&'static [u8], &'static [u8]), &'static [u8], Result<Taken, TakeFault>),
     /// A datagram of this cause could not be sent.
     Fails(Cause),
     /// So many events were posted.
@@ -163,6 +166,25 @@ fn answered(
     }
 }
 
+/// What comes of such a request, by its key and by what was read of its top Via value.
+fn asked(
+    alloc: Global,
+    call: &mut Call,
+    now: u64,
+    start: &[u8],
+    vias: (&[u8], &[u8]),
+    cseq: &[u8],
+) -> Option<Result<Taken, TakeFault>> {
+    let request = message_of(alloc, start, vias, cseq)?;
+    if is_response(&request) || !has_key(&request, KEY) {
+        return None;
+    }
+    match TopVia::of(&alloc, &request, SOURCE) {
+        Ok(top) => Some(call.take_request(request, KEY, &top, SOURCE, now)),
+        Err(_) => None,
+    }
+}
+
 /// Whether a turn goes as it is told.
 fn goes(alloc: Global, call: &mut Call, now: u64, turn: Turn) -> bool {
     match turn {
@@ -175,6 +197,9 @@ fn goes(alloc: Global, call: &mut Call, now: u64, turn: Turn) -> bool {
         }
         Turn::Answers(start, vias, cseq, wanted) => {
             answered(alloc, call, now, start, vias, cseq) == Some(wanted)
+        }
+        Turn::Asks(start, vias, cseq, wanted) => {
+            asked(alloc, call, now, start, vias, cseq) == Some(wanted)
         }
         Turn::Fails(cause) => call.failed(cause, now).is_ok(),
         Turn::HasPosted(count) => call.book().history().len() == count,
@@ -308,6 +333,17 @@ const TELLING: &[Moment] = &[
         "the caller cancels",
     ),
     (20, Turn::Sends(&[Cause::CancelOk]), "the 200 to the CANCEL"),
+    (
+        20,
+        Turn::Asks(
+            b"CANCEL sip:bob@example.com SIP/2.0",
+            (CALLER, NO_VIA),
+            CANCELLING,
+            Ok(Taken::Absorbed),
+        ),
+        "it comes again, and was read before",
+    ),
+    (20, Turn::Sends(&[Cause::CancelOk]), "the 200 to that"),
 ];
 
 #[test]
@@ -374,9 +410,27 @@ fn a_prepared_call_is_the_one_that_opens(rt: HostRuntime) {
     }
 }
 
+/// What the INVITE opens with a setup, of whose top Via value was read before.
+fn prepared_read(alloc: Global, setup: &Setup<Global>) -> Option<PendingCall> {
+    let invite = message_of(alloc, INVITE, (CALLER, NO_VIA), INVITING)?;
+    if !is_openable(&invite) {
+        return None;
+    }
+    let Ok(top) = TopVia::of(&alloc, &invite, SOURCE) else {
+        return None;
+    };
+    match PendingCall::new_read(setup, opening_of(alloc, invite), &top) {
+        Ok(prepared) => Some(prepared),
+        Err(_) => None,
+    }
+}
+
 /// Whether what the INVITE opens gives that back where it is not kept.
 fn is_given_back(alloc: Global) -> bool {
-    match prepared(alloc) {
+    let Some(setup) = setup_of(alloc, SETUP) else {
+        return false;
+    };
+    match prepared_read(alloc, &setup) {
         Some(prepared) => prepared.into_request().is_invite(),
         None => false,
     }
@@ -387,11 +441,15 @@ fn opens_as_prepared(alloc: Global, setup: &Setup<Global>, invite: Message<Globa
     if !is_openable(&invite) {
         return false;
     }
-    let Ok(prepared) = prepare(setup, opening_of(alloc, invite)) else {
+    let Ok(top) = TopVia::of(&alloc, &invite, SOURCE) else {
+        return false;
+    };
+    let Ok(prepared) = prepare_read(setup, opening_of(alloc, invite), &top) else {
         return false;
     };
     let named = prepared.uri().user() == Some(b"bob".as_slice())
         && prepared.source() == SOURCE
+        && prepared.caller() == ANSWERED
         && prepared.request().is_invite();
     match PendingCall::of(setup, alloc, prepared) {
         Ok(call) => named && call.into_request().is_invite(),

@@ -10,7 +10,7 @@ use fork_call::{
     calls_have_stages, datagrams_go_back_to_the_request, each_datagram_is_right,
     each_success_goes_up, one_final_answer_goes_up, opened_calls_pay_in_order,
 };
-use proxy_routing::taking_own_routes_keeps_the_rest;
+use proxy_routing::{taking_own_routes_keeps_the_rest, what_was_read_tells_the_reply};
 
 #[test]
 fn laws_can_be_called() {
@@ -36,4 +36,5 @@ fn laws_can_be_called() {
     each_datagram_is_right();
     datagrams_go_back_to_the_request();
     taking_own_routes_keeps_the_rest();
+    what_was_read_tells_the_reply();
 }

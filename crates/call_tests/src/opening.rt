@@ -9,9 +9,12 @@ use call_state::CallState;
 use fork_call::is_openable;
 use fork_context::Kind;
 use proxy_config::Setup;
-use proxy_routing::{RequestRejection, has_via, is_responsible_for, validate_request};
+use proxy_routing::{
+    RequestRejection, has_via, is_responsible_for, validate_read, validate_request,
+};
 use sip_text::Message;
 use sip_uri::{Hop, SipUri, Transport};
+use sip_via::TopVia;
 use std::alloc::Global;
 
 #[test]
@@ -40,11 +43,31 @@ fn admitted(alloc: Global, message: Message<Global>) -> Option<Message<Global>> 
     }
 }
 
+/// The same of a message of whose top Via value was read before.
+fn admitted_read(alloc: Global, message: Message<Global>) -> Option<Message<Global>> {
+    let setup = setup_of(alloc, SETUP)?;
+    let Ok(top) = TopVia::of(&alloc, &message, SOURCE) else {
+        return None;
+    };
+    match validate_read(alloc, &setup, message, SOURCE, &top) {
+        Ok(request) => Some(request),
+        Err(_) => None,
+    }
+}
+
+/// Whether a request begins with the request's own start line.
+fn is_options(request: Option<Message<Global>>) -> bool {
+    match request {
+        Some(request) => request.method() == Some(b"OPTIONS".as_slice()),
+        None => false,
+    }
+}
+
 /// Whether the request is admitted, and begins with its own start line then.
 fn is_admitted(alloc: Global) -> Option<bool> {
     let message = request_with(alloc, &[])?;
-    let request = admitted(alloc, message)?;
-    Some(request.method() == Some(b"OPTIONS".as_slice()))
+    let read = request_with(alloc, &[])?;
+    Some(is_options(admitted(alloc, message)) && is_options(admitted_read(alloc, read)))
 }
 
 #[test]

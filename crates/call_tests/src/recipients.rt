@@ -5,8 +5,9 @@ ghost use Rattle.call_state.specs.Kinds.{is_response};
 use crate::holds::holds;
 use crate::requests::{opened, sent_to, setup_of};
 use call_messages::lines::text_of;
-use call_state::{CallState, MatchedTransaction, match_response, match_transaction};
+use call_state::{CallState, MatchedTransaction, match_request, match_response, match_transaction};
 use proxy_config::Setup;
+use sip_route::has_key;
 use sip_text::{Message, StartLine};
 use sip_via::own_branch;
 use std::alloc::Global;
@@ -18,6 +19,9 @@ location bob 1000 sip:bob@192.0.2.4\nlocation bob 1000 sip:bob@192.0.2.5\n";
 
 /// The Via line of the caller.
 pub const CALLER: &[u8] = b"v: SIP/2.0/UDP 192.0.2.1:5060;branch=z9hG4bKa";
+
+/// The key of a request of the caller's.
+pub const KEY: &[u8] = b"192.0.2.1:5060 z9hG4bKa";
 
 /// That of the first branch.
 pub const FIRST: &[u8] =
@@ -131,14 +135,30 @@ fn by_branch(state: &CallState, response: &Message<Global>) -> Option<MatchedTra
     }
 }
 
-/// Whether a response is for this transaction, as it stands and by its branch. A request is for it as it stands.
+/// What a request of the caller's is for by its key, if it is one.
+fn by_key(state: &CallState, request: &Message<Global>) -> Option<MatchedTransaction> {
+    if is_response(request) || !has_key(request, KEY) {
+        return None;
+    }
+    match_request(state, request, KEY)
+}
+
+/// What a message is for by what was read of its top Via value before.
+fn by_via(state: &CallState, message: &Message<Global>) -> Option<MatchedTransaction> {
+    if is_response(message) {
+        by_branch(state, message)
+    } else {
+        by_key(state, message)
+    }
+}
+
+/// Whether a message is for this transaction, as it stands and by what was read of its top Via value.
 fn is_message_for(
     state: &CallState,
     message: &Message<Global>,
     wanted: Option<MatchedTransaction>,
 ) -> bool {
-    match_transaction(state, message) == wanted
-        && (!is_response(message) || by_branch(state, message) == wanted)
+    match_transaction(state, message) == wanted && by_via(state, message) == wanted
 }
 
 /// Whether a message is for what it is to be for.

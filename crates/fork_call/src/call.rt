@@ -1,5 +1,7 @@
 //! Calls.
-ghost use Rattle.std.specs.Prelude.{◌≡◌, ◌≢◌, ◌⊎◌, ◌↔◌, length, true, IfErr, IfNone, IfOk, IfSome, IsErrOf, IsOk, IsTrue, OnErr, OnOk};
+ghost use Rattle.std.specs.Prelude.{◌≡◌, ◌≢◌, ◌⊎◌, ◌↔◌, length, false, true, Some, IfErr, IfNone, IfOk, IfSome, IsErrOf, IsOk, IsTrue, OnErr, OnOk};
+ghost use Rattle.sip_route.specs.RequestKey.{request_key};
+ghost use Rattle.sip_via.specs.ReadTop.{IsTopOf};
 ghost use Rattle.sip_via.specs.TopVia.{top_value};
 ghost use Rattle.call_laws.specs.Sending.{Sends};
 ghost use Rattle.call_model.specs.Due.{IsIdle, IsLeastDue, IsOver, is_due_at};
@@ -30,7 +32,7 @@ use crate::timing::time_step;
 use call_branch::response_status;
 use call_laws::{calls_send_right, what_is_sent_is_right};
 use call_model::{Cause, Step, Taken, calls_stay_sound};
-use call_state::{CallState, MatchedTransaction, match_response, match_transaction};
+use call_state::{CallState, MatchedTransaction, match_request, match_response, match_transaction};
 use call_table::{Numbered, Pending};
 use fork_book::Book;
 use fork_model::{
@@ -41,7 +43,7 @@ use proxy_config::Setup;
 use proxy_routing::RequestRejection;
 use sip_text::Message;
 use sip_uri::Hop;
-use sip_via::{BranchName, Own};
+use sip_via::{BranchName, Own, TopVia};
 use std::alloc::{AllocError, Allocator, Global};
 use std::marker::Model;
 
@@ -159,15 +161,18 @@ impl<A: Allocator + Clone> Call<A> {
         Some(Action::on_row(&self.state, n as u16, now))
     }
 
-    /// Takes a message that came from `source`, by this transaction, which the message belongs to.
+    /// Takes a message that came from `source`, by this transaction, which the message belongs to; of its top Via value this may have
+    /// been read.
     fn take_by(
         &mut self,
         to: MatchedTransaction,
         message: Message<A>,
         source: Hop,
+        top: Option<&TopVia<A>>,
         now: u64,
     ) -> Result<Taken, TakeFault>
         requires belongs { BelongsTo self.old message (seen_recipient to) }
+        requires top { IfSome top.entry (λ top. IsTopOf message source top.now) }
         ensures step { IfOk result (λ taken. Takes self.old now message source (seen_taken taken) self.new) }
         ensures full { IsErrOf result TakeFault.Full → Takes self.old now message source take.Full self.old }
         ensures refused { IfErr result (λ fault. fault ≢ TakeFault.Stray) }
@@ -185,7 +190,7 @@ impl<A: Allocator + Clone> Call<A> {
         replies_list_all_that_became();
         let alloc = self.alloc.clone()?;
         self.schedule.pad(room_for(response_status(&message)))?;
-        let taken = give(&mut self.state, alloc, to, message, source, now);
+        let taken = give(&mut self.state, alloc, to, message, source, top, now);
         let _rows = self.state.book().context().count();
         time_step(&mut self.schedule, &self.state, row_to(to), at);
         taken
@@ -208,7 +213,7 @@ impl<A: Allocator + Clone> Call<A> {
         let Some(to) = match_transaction(&self.state, &message) else {
             return Err(TakeFault::Stray);
         };
-        self.take_by(to, message, source, now)
+        self.take_by(to, message, source, None, now)
     }
 
     /// The same of a response, in whose top Via value this branch of the proxy was read: that value is not read again.
@@ -234,7 +239,35 @@ impl<A: Allocator + Clone> Call<A> {
         let Some(to) = match_response(&self.state, &response, branch) else {
             return Err(TakeFault::Stray);
         };
-        self.take_by(to, response, source, now)
+        self.take_by(to, response, source, None, now)
+    }
+
+    /// The same of a request, which has this key, and of whose top Via value this was read: neither is read again.
+    ///
+    /// # Errors
+    ///
+    /// Those of [`Call::take`].
+    pub fn take_request(
+        &mut self,
+        request: Message<A>,
+        key: &[u8],
+        top: &TopVia<A>,
+        source: Hop,
+        now: u64,
+    ) -> Result<Taken, TakeFault>
+        requires request { is_response request.start ≡ false }
+        requires key { request_key request ≡ Some key.now }
+        requires top { IsTopOf request source top.now }
+        ensures step { IfOk result (λ taken. Takes self.old now request source (seen_taken taken) self.new) }
+        ensures stray { IsErrOf result TakeFault.Stray → BelongsToNone self.old request }
+        ensures unmatched { BelongsToNone self.old request → IsErrOf result TakeFault.Stray }
+        ensures full { IsErrOf result TakeFault.Full → Takes self.old now request source take.Full self.old }
+        ensures err { OnErr result (self.new ≡ self.old) }
+    {
+        let Some(to) = match_request(&self.state, &request, key) else {
+            return Err(TakeFault::Stray);
+        };
+        self.take_by(to, request, source, Some(top), now)
     }
 
     /// Does one thing that is due; where nothing is, nothing changes. What the call sends is what the cause of the datagram

@@ -26,7 +26,7 @@ pub use law::{
     calls_have_stages, datagrams_go_back_to_the_request, each_datagram_is_right,
     each_success_goes_up, one_fault_holds, one_final_answer_goes_up, opened_calls_pay_in_order,
 };
-pub use opening::{admitted_target, is_openable, open_to, prepare, read_target};
+pub use opening::{admitted_target, is_openable, open_to, prepare, prepare_read, read_target};
 pub use opening_request::OpeningRequest;
 pub use pending_call::PendingCall;
 pub use port::{Carried, Port, carry};

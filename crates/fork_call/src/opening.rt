@@ -4,6 +4,10 @@ ghost use Rattle.std.specs.List.{list_all};
 ghost use Rattle.std.specs.Option.{option_and_then, option_map};
 ghost use Rattle.fork_model.specs.Table.{Row};
 ghost use Rattle.sip_text.specs.Name.{first_value};
+ghost use Rattle.sip_via.specs.ReadTop.{IsTopOf};
+ghost use Rattle.sip_via.specs.Received.{reply_of};
+ghost use Rattle.sip_via.specs.TopVia.{top_value};
+ghost use Rattle.sip_via.specs.ViaParts.{via_of};
 ghost use Rattle.sip_route.specs.Hops.{IsHops, hops_name};
 ghost use Rattle.sip_build.specs.Forwarding.{is_request};
 ghost use Rattle.fork_rank.specs.KindView as kinds;
@@ -31,12 +35,12 @@ use fork_rank::Rules;
 use proxy_config::{Setup, locations_are_targets};
 use proxy_routing::{
     CandidateTarget, RequestRejection, Unrouted, asks_extension, candidates, have_hops, hop_if_any,
-    is_responsible_for, targets_of, validate_request,
+    is_responsible_for, targets_of, validate_read, what_was_read_tells_the_reply,
 };
 use sip_route::{first_route, request_uri};
 use sip_text::Message;
 use sip_uri::{Hop, SipUri, UriFault};
-use sip_via::reply_hop_of;
+use sip_via::TopVia;
 use std::alloc::{AllocError, Allocator};
 
 /// Where the request to a target that has a hop goes, and how long its branch may take.
@@ -189,8 +193,10 @@ fn open_at<A: Allocator + Clone>(
     setup: &Setup<A>,
     opening: OpeningRequest<A>,
     uri: &SipUri<A>,
+    caller: Hop,
 ) -> Result<CallState<A>, Unrouted<A>>
     requires request { is_request opening.request.start ≡ true }
+    requires caller { caller ≡ reply_of (via_of (top_value opening.request)) opening.source }
     requires hops { IfSome (first_value hops_name opening.request.headers) IsHops }
     ensures opened { IfOk result (Reaches setup.now 0 opening.request opening.source uri.now) }
     ensures refused { IfErr result (IfRejected (IsUnreachableAs setup.now opening.request uri.now)) }
@@ -198,7 +204,7 @@ fn open_at<A: Allocator + Clone>(
     let OpeningRequest {
         alloc,
         request,
-        source,
+        source: _,
         now,
     } = opening;
     let route = first_route(&request);
@@ -212,7 +218,6 @@ fn open_at<A: Allocator + Clone>(
     }
     let streams = setup.has_streams();
     let record_route = record_route_of(alloc.clone()?, setup, &request)?;
-    let caller = reply_hop_of(&request, source);
     let opened = OpenedRequest::new(Opening {
         number: NO_NUMBER,
         own: setup.own(),
@@ -234,11 +239,13 @@ fn open_at<A: Allocator + Clone>(
     }
 }
 
-/// The request as it was prepared, with the URI that it names.
+/// The request as it was prepared, with the URI that it names, and where its answers go.
 fn with_target<A: Allocator + Clone>(
     opening: OpeningRequest<A>,
+    caller: Hop,
 ) -> Result<PreparedRequest<A>, Unrouted<A>>
     requires request { is_request opening.request.start ≡ true }
+    requires caller { caller ≡ reply_of (via_of (top_value opening.request)) opening.source }
     requires hops { IfSome (first_value hops_name opening.request.headers) IsHops }
     requires readable { IsOk (target_uri opening.request) }
     ensures target { IfOk result (HasTarget opening.request opening.source) }
@@ -248,7 +255,7 @@ fn with_target<A: Allocator + Clone>(
         return Err(Unrouted::Rejected(RequestRejection::Extension, opening.request));
     }
     let uri = admitted_target(opening.alloc.clone()?, &opening.request)?;
-    Ok(PreparedRequest::new(opening, uri))
+    Ok(PreparedRequest::new(opening, uri, caller))
 }
 
 /// Whether a message is a request that may open a call: neither an ACK nor a CANCEL, which are for a call that was opened
@@ -257,6 +264,42 @@ pub fn is_openable<A: Allocator>(message: &Message<A>) -> bool
     ensures { IsTrue result ↔ IsOpenable message.now.start }
 {
     message.stands_alone()
+}
+
+/// A request that may open a call, as [`prepare`] prepares it, of whose top Via value this was read: the value is not read again.
+///
+/// # Errors
+///
+/// Those of [`prepare`].
+pub fn prepare_read<A: Allocator + Clone>(
+    setup: &Setup<A>,
+    opening: OpeningRequest<A>,
+    top: &TopVia<A>,
+) -> Result<PreparedRequest<A>, Unrouted<A>>
+    requires openable { IsOpenable opening.request.start }
+    requires top { IsTopOf opening.request opening.source top.now }
+    ensures prepared { IfOk result (IsPreparedAs setup.now opening.request opening.source) }
+    ensures refused { IfErr result (IfRejected (IsStoppedFor setup.now opening.request opening.source)) }
+{
+    what_was_read_tells_the_reply();
+    let OpeningRequest {
+        alloc,
+        request,
+        source,
+        now,
+    } = opening;
+    match validate_read(alloc.clone()?, setup, request, source, top) {
+        Ok(request) => with_target(
+            OpeningRequest {
+                alloc,
+                request,
+                source,
+                now,
+            },
+            top.reply_hop(source),
+        ),
+        Err(why) => Err(why),
+    }
 }
 
 /// A request that may open a call, as it is prepared; it is neither an ACK nor a CANCEL (RFC 3261 sections 16.3 steps 1 to 5, 16.4,
@@ -274,20 +317,9 @@ pub fn prepare<A: Allocator + Clone>(
     ensures prepared { IfOk result (IsPreparedAs setup.now opening.request opening.source) }
     ensures refused { IfErr result (IfRejected (IsStoppedFor setup.now opening.request opening.source)) }
 {
-    let OpeningRequest {
-        alloc,
-        request,
-        source,
-        now,
-    } = opening;
-    match validate_request(alloc.clone()?, setup, request, source) {
-        Ok(request) => with_target(OpeningRequest {
-            alloc,
-            request,
-            source,
-            now,
-        }),
-        Err(why) => Err(why),
+    match TopVia::of(&opening.alloc, &opening.request, opening.source) {
+        Ok(top) => prepare_read(setup, opening, &top),
+        Err(AllocError) => Err(Unrouted::NoMemory),
     }
 }
 
@@ -306,6 +338,7 @@ pub fn open_to<A: Allocator + Clone>(
     ensures opened { IfOk result (Reaches setup.now 0 prepared.request prepared.source prepared.uri) }
     ensures refused { IfErr result (IfRejected (IsUnreachableAs setup.now prepared.request prepared.uri)) }
 {
+    let caller = prepared.caller();
     let (opening, uri) = prepared.into_parts();
-    open_at(setup, opening, &uri)
+    open_at(setup, opening, &uri, caller)
 }

@@ -1,12 +1,13 @@
 //! Calls that have no number yet.
 ghost use Rattle.std.specs.Prelude.{◌≡◌, ℕ, IfErr, IfOk};
+ghost use Rattle.sip_via.specs.ReadTop.{IsTopOf};
 ghost use Rattle.call_model.specs.Call.{numbered};
 ghost use Rattle.fork_call.specs.Opening.{IsOpenable, IsRefusedFor, Opens, Reaches};
 ghost use Rattle.fork_call.specs.Prepared.{IsUnreachableAs};
 ghost use Rattle.proxy_routing.specs.Unrouted.{IfRejected};
 
 use crate::call::Call;
-use crate::opening::{open_to, prepare};
+use crate::opening::{open_to, prepare_read};
 use crate::opening_request::OpeningRequest;
 use crate::prepared_request::PreparedRequest;
 use crate::schedule::BranchTimers;
@@ -18,7 +19,8 @@ use call_table::Pending;
 use proxy_config::Setup;
 use proxy_routing::Unrouted;
 use sip_text::Message;
-use std::alloc::{Allocator, Global};
+use sip_via::TopVia;
+use std::alloc::{AllocError, Allocator, Global};
 use std::marker::Model;
 
 /// What a request opens, but for the number of the call. Numbers are given under a lock that all calls share: all that
@@ -54,8 +56,29 @@ impl<A: Allocator + Clone> PendingCall<A> {
         ensures opened { IfOk result (λ pending_call. (number : ℕ) → Opens setup.now number opening.request opening.source (numbered number pending_call)) }
         ensures refused { IfErr result (IfRejected (IsRefusedFor setup.now opening.request opening.source)) }
     {
+        match TopVia::of(&opening.alloc, &opening.request, opening.source) {
+            Ok(top) => PendingCall::new_read(setup, opening, &top),
+            Err(AllocError) => Err(Unrouted::NoMemory),
+        }
+    }
+
+    /// The same of a request of whose top Via value this was read: the value is not read again.
+    ///
+    /// # Errors
+    ///
+    /// Those of [`PendingCall::new`].
+    pub fn new_read(
+        setup: &Setup<A>,
+        opening: OpeningRequest<A>,
+        top: &TopVia<A>,
+    ) -> Result<PendingCall<A>, Unrouted<A>>
+        requires openable { IsOpenable opening.request.start }
+        requires top { IsTopOf opening.request opening.source top.now }
+        ensures opened { IfOk result (λ pending_call. (number : ℕ) → Opens setup.now number opening.request opening.source (numbered number pending_call)) }
+        ensures refused { IfErr result (IfRejected (IsRefusedFor setup.now opening.request opening.source)) }
+    {
         let alloc = opening.alloc.clone()?;
-        match prepare(setup, opening) {
+        match prepare_read(setup, opening, top) {
             Ok(prepared) => PendingCall::of(setup, alloc, prepared),
             Err(unrouted) => Err(unrouted),
         }

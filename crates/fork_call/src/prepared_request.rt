@@ -2,6 +2,9 @@
 ghost use Rattle.std.specs.Prelude.{◌≡◌, true, IfSome};
 ghost use Rattle.sip_text.specs.Name.{first_value};
 ghost use Rattle.sip_build.specs.Forwarding.{is_request};
+ghost use Rattle.sip_via.specs.Received.{reply_of};
+ghost use Rattle.sip_via.specs.TopVia.{top_value};
+ghost use Rattle.sip_via.specs.ViaParts.{via_of};
 ghost use Rattle.sip_route.specs.Hops.{IsHops, hops_name};
 
 use crate::opening_request::OpeningRequest;
@@ -16,12 +19,16 @@ use std::marker::Model;
 pub struct PreparedRequest<A: Allocator> {
     opening: OpeningRequest<A>,
     uri: SipUri<A>,
+    caller: Hop,
 }
 
 impl<A: Allocator> Model for PreparedRequest<A> {
     ghost use Rattle.std.specs.Prelude.{◌≡◌, true, IfSome};
     ghost use Rattle.sip_text.specs.Name.{first_value};
     ghost use Rattle.sip_build.specs.Forwarding.{is_request};
+    ghost use Rattle.sip_via.specs.Received.{reply_of};
+    ghost use Rattle.sip_via.specs.TopVia.{top_value};
+    ghost use Rattle.sip_via.specs.ViaParts.{via_of};
     ghost use Rattle.sip_route.specs.Hops.{IsHops, hops_name};
     ghost use Rattle.fork_call.specs.Prepared as spec;
 
@@ -29,18 +36,24 @@ impl<A: Allocator> Model for PreparedRequest<A> {
 
     ghost view = { λ p. record { request = p.opening.request; source = p.opening.source; uri = p.uri } };
 
-    // it can be forwarded
-    ghost invariant = { λ p. (is_request p.opening.request.start ≡ true) × IfSome (first_value hops_name p.opening.request.headers) IsHops };
+    // it can be forwarded, and its answers go there
+    ghost invariant = { λ p. (is_request p.opening.request.start ≡ true) × IfSome (first_value hops_name p.opening.request.headers) IsHops
+        × (p.caller ≡ reply_of (via_of (top_value p.opening.request)) p.opening.source) };
 }
 
 impl<A: Allocator> PreparedRequest<A> {
-    /// A request as it was prepared, with the URI that it names.
-    pub(crate) fn new(opening: OpeningRequest<A>, uri: SipUri<A>) -> PreparedRequest<A>
+    /// A request as it was prepared, with the URI that it names, and where its answers go.
+    pub(crate) fn new(opening: OpeningRequest<A>, uri: SipUri<A>, caller: Hop) -> PreparedRequest<A>
         requires request { is_request opening.request.start ≡ true }
         requires hops { IfSome (first_value hops_name opening.request.headers) IsHops }
+        requires caller { caller ≡ reply_of (via_of (top_value opening.request)) opening.source }
         ensures { result ≡ record { request = opening.request; source = opening.source; uri = uri } }
     {
-        PreparedRequest { opening, uri }
+        PreparedRequest {
+            opening,
+            uri,
+            caller,
+        }
     }
 
     /// The request.
@@ -62,6 +75,13 @@ impl<A: Allocator> PreparedRequest<A> {
         ensures { result.now ≡ self.now.uri }
     {
         &self.uri
+    }
+
+    /// Where its answers go (RFC 3261 section 18.2.2).
+    pub fn caller(&self) -> Hop
+        ensures { result ≡ reply_of (via_of (top_value self.now.request)) self.now.source }
+    {
+        self.caller
     }
 
     /// The request as it is to open a call, and the URI.

@@ -1,6 +1,10 @@
 //! A message comes to a transaction of a call.
-ghost use Rattle.std.specs.Prelude.{◌≡◌, ◌≢◌, ◌≤◌, true, None, IfErr, IfOk, IsErrOf, OnErr};
+ghost use Rattle.std.specs.Prelude.{◌≡◌, ◌≢◌, ◌≤◌, true, None, IfErr, IfOk, IfSome, IsErrOf, Ok, OnErr};
 ghost use Rattle.sip_text.specs.Message.{IsMessage};
+ghost use Rattle.sip_via.specs.ReadTop.{IsTopOf};
+ghost use Rattle.sip_via.specs.Received.{marked, reply_of};
+ghost use Rattle.sip_via.specs.TopVia.{top_value};
+ghost use Rattle.sip_via.specs.ViaParts.{via_of};
 ghost use Rattle.call_model.specs.Built.{status_of};
 ghost use Rattle.call_model.specs.Call.{is_sent};
 ghost use Rattle.call_model.specs.SeenTaken.{seen_taken};
@@ -16,10 +20,11 @@ use crate::fault::TakeFault;
 use call_branch::{is_redirection, response_status};
 use call_model::Taken;
 use call_state::{CallState, MatchedTransaction, PostFault};
+use proxy_routing::what_was_read_tells_the_reply;
 use sip_text::Message;
 use sip_uri::Hop;
-use sip_via::{ViaFault, add_received, readable_is_marked, reply_hop_of};
-use std::alloc::Allocator;
+use sip_via::{TopVia, ViaFault, add_source, readable_is_marked};
+use std::alloc::{AllocError, Allocator};
 
 /// How many targets a call has at most.
 const MOST_TARGETS: u16 = 256;
@@ -48,29 +53,72 @@ pub(crate) fn row_of_transaction(to: MatchedTransaction) -> Option<u16>
     }
 }
 
-/// Marks the caller's CANCEL with its source and takes it (RFC 3261 sections 9.2, 16.10 and 18.2.1). The CANCEL has the
-/// key of the call's request, so its top Via value can be read, and want of memory alone keeps it from being marked.
+/// The caller's CANCEL with its source, of whose top Via value this was read, and where its answer goes (RFC 3261 sections 18.2.1 and
+/// 18.2.2). The CANCEL has the key of the call's request, so its top Via value can be read, and want of memory alone keeps it from
+/// being marked.
+fn cancel_by<A: Allocator>(
+    message: Message<A>,
+    source: Hop,
+    top: &TopVia<A>,
+) -> Result<(Message<A>, Hop), TakeFault>
+    requires keyed { request_key message ≢ None }
+    requires top { IsTopOf message source top.now }
+    ensures marked { IfOk result (λ cancel. marked message source ≡ Ok cancel.0) }
+    ensures reply { IfOk result (λ cancel. cancel.1 ≡ reply_of (via_of (top_value cancel.0)) source) }
+    ensures refused { IfErr result (λ fault. fault ≡ TakeFault.NoMemory) }
+{
+    readable_is_marked();
+    what_was_read_tells_the_reply();
+    match add_source(message, source, top) {
+        Ok(cancel) => Ok((cancel, top.reply_hop(source))),
+        Err(unmarked) => match unmarked.fault {
+            ViaFault::NoMemory => Err(TakeFault::NoMemory),
+            ViaFault::BadVia => unreachable!(),
+        },
+    }
+}
+
+/// The same, where the top Via value may be yet to be read.
+fn marked_cancel<A: Allocator + Clone>(
+    alloc: A,
+    message: Message<A>,
+    source: Hop,
+    top: Option<&TopVia<A>>,
+) -> Result<(Message<A>, Hop), TakeFault>
+    requires keyed { request_key message ≢ None }
+    requires top { IfSome top.entry (λ top. IsTopOf message source top.now) }
+    ensures marked { IfOk result (λ cancel. marked message source ≡ Ok cancel.0) }
+    ensures reply { IfOk result (λ cancel. cancel.1 ≡ reply_of (via_of (top_value cancel.0)) source) }
+    ensures refused { IfErr result (λ fault. fault ≡ TakeFault.NoMemory) }
+{
+    match top {
+        Some(top) => cancel_by(message, source, top),
+        None => match TopVia::of(&alloc, &message, source) {
+            Ok(top) => cancel_by(message, source, &top),
+            Err(AllocError) => Err(TakeFault::NoMemory),
+        },
+    }
+}
+
+/// Takes the caller's CANCEL, marked with its source (RFC 3261 sections 9.2, 16.10 and 18.2.1).
 fn take_cancel<A: Allocator + Clone>(
     state: &mut CallState<A>,
     alloc: A,
     message: Message<A>,
     source: Hop,
+    top: Option<&TopVia<A>>,
 ) -> Result<Taken, TakeFault>
     requires sound { IsSound state.old }
     requires keyed { request_key message ≢ None }
+    requires top { IfSome top.entry (λ top. IsTopOf message source top.now) }
     ensures step { IfOk result (λ taken. TakesCancel state.old message source (seen_taken taken) state.new) }
     ensures refused { IfErr result (λ fault. fault ≡ TakeFault.NoMemory) }
     ensures err { OnErr result (state.new ≡ state.old) }
 {
-    readable_is_marked();
-    let cancel = match add_received(alloc, message, source) {
+    let (cancel, to) = match marked_cancel(alloc, message, source, top) {
         Ok(cancel) => cancel,
-        Err(unmarked) => match unmarked.fault {
-            ViaFault::NoMemory => return Err(TakeFault::NoMemory),
-            ViaFault::BadVia => unreachable!(),
-        },
+        Err(fault) => return Err(fault),
     };
-    let to = reply_hop_of(&cancel, source);
     match state.take_cancel(cancel, to) {
         Ok(taken) => Ok(taken),
         Err(_) => Err(TakeFault::NoMemory),
@@ -101,7 +149,7 @@ fn respond<A: Allocator + Clone>(
     }
 }
 
-/// Gives a message to the transaction that it belongs to.
+/// Gives a message to the transaction that it belongs to; of its top Via value this may have been read.
 ///
 /// # Errors
 ///
@@ -113,10 +161,12 @@ pub(crate) fn give<A: Allocator + Clone>(
     to: MatchedTransaction,
     message: Message<A>,
     source: Hop,
+    top: Option<&TopVia<A>>,
     now: u64,
 ) -> Result<Taken, TakeFault>
     requires sound { IsSound state.old }
     requires message { IsMessage message }
+    requires top { IfSome top.entry (λ top. IsTopOf message source top.now) }
     requires belongs { BelongsTo state.old message (seen_recipient to) }
     ensures step { IfOk result (λ taken. TakesAs state.old now message source (seen_recipient to) (seen_taken taken) state.new) }
     ensures full { IsErrOf result TakeFault.Full → TakesAs state.old now message source (seen_recipient to) take.Full state.new }
@@ -133,7 +183,7 @@ pub(crate) fn give<A: Allocator + Clone>(
             state.take_ack(now);
             Ok(Taken::Absorbed)
         }
-        MatchedTransaction::ServerCancel => take_cancel(state, alloc, message, source),
+        MatchedTransaction::ServerCancel => take_cancel(state, alloc, message, source, top),
         MatchedTransaction::Client(n) => respond(state, n, status, message, now),
         MatchedTransaction::CancelClient(n) => {
             state.take_cancel_response(n, status, now);

@@ -1,6 +1,6 @@
 -- What a message is, by what it is for.
 use Rattle.proxy_dispatch.proofs.Common.{◌≡◌, Option, Some, None, refl, RequestKind, Opening}
-use Rattle.std.proofs.Common.{true}
+use Rattle.std.proofs.Common.{false, true}
 use Rattle.std.specs.Prelude.{option_map}
 use Rattle.sip_text.specs.declared.method.Method.{Method}
 use Rattle.sip_text.specs.declared.method.Method.TheVariants as methods
@@ -34,3 +34,7 @@ no_purpose (Response status reason) e = refl
 pub a_purpose : (start : StartText) (purpose : RequestKind) → purpose_of start ≡ Some purpose → is_request start ≡ true
 a_purpose (Request method uri) purpose e = refl
 a_purpose (Response status reason) purpose e = absurd cc
+
+pub a_request : (start : StartText) (purpose : RequestKind) → purpose_of start ≡ Some purpose → is_response start ≡ false
+a_request (Request method uri) purpose e = refl
+a_request (Response status reason) purpose e = absurd cc

@@ -4,6 +4,7 @@ use Rattle.std.proofs.Common.{Bool, false, true, codes}
 use Rattle.std.specs.List.{flat_map}
 use Rattle.sip_text.specs.Name.{full_name, same_name, values_of}
 use Rattle.sip_text.specs.Text.{HeaderText, spelling}
+use Rattle.sip_via.specs.ReadTop.{IsTopOf, ReadTop, reply_if_read}
 use Rattle.sip_via.specs.Received.{marked, reply_of}
 use Rattle.sip_via.specs.TopVia.{first_or_empty, top_value, values_in}
 use Rattle.sip_via.specs.ViaParts.{via_of}
@@ -16,7 +17,7 @@ use Rattle.proxy_routing.specs.declared.fault.RequestRejection.TheVariants.{BadR
 use Rattle.proxy_routing.specs.declared.unrouted.Unrouted.{Unrouted}
 use Rattle.proxy_routing.specs.declared.unrouted.Unrouted.TheVariants as unrouted
 use Rattle.proxy_routing.specs.Admission.{IsPrepared}
-use Rattle.proxy_routing.specs.Unrouted.{IfRejected}
+use Rattle.proxy_routing.specs.Unrouted.{IfRejected, IsGivenBack}
 use Rattle.proxy_routing.specs.Refusing.{status_of_fault}
 use Rattle.sip_via.specs.Edits.{with_headers}
 use Rattle.proxy_routing.specs.OwnCredentials.{AreSameBut}
@@ -110,6 +111,35 @@ module _ (answers : KeepsAnswers) (others : KeepsOthers) (source : Hop) (status 
     },
     refl,
   )
+
+-- where it goes, by what was read of the top Via value as it came
+abbrev TellsMarked : Type 0
+TellsMarked = (m with_source : MessageText) (source : Hop) (top : Option ReadTop) → IsTopOf m source top → marked m source ≡ Ok with_source
+    → reply_if_read top source ≡ reply_of (via_of (top_value with_source)) source
+
+abbrev TellsPrepared : Type 0
+TellsPrepared = (setup : Setup) (m request : MessageText) (source : Hop) (top : Option ReadTop) → IsTopOf m source top → IsPrepared setup m source request
+    → reply_if_read top source ≡ reply_of (via_of (top_value request)) source
+
+pub told_back : TellsMarked → TellsPrepared → (setup : Setup) (m : MessageText) (source : Hop) (top : Option ReadTop) → IsTopOf m source top
+    → (fault : RequestRejection) (back : MessageText) → IsRefusedFor setup m source fault back → (fault ≡ BadRequest → ⊥)
+    → reply_if_read top source ≡ reply_of (via_of (top_value back)) source
+told_back tells prepared setup m source top is BadRequest back h other = absurd (other refl)
+told_back tells prepared setup m source top is Scheme back h other = tells m back source top is h.1
+told_back tells prepared setup m source top is Hops back h other = tells m back source top is h.1
+told_back tells prepared setup m source top is Loop back h other = prepared setup m back source top is h.1
+told_back tells prepared setup m source top is Extension back h other = prepared setup m back source top is h.1
+told_back tells prepared setup m source top is NoTarget back h other = prepared setup m back source top is h.1
+told_back tells prepared setup m source top is NoHop back h other = prepared setup m back source top is h.1
+told_back tells prepared setup m source top is NoMemory back h other = absurd h.1
+
+-- what is given back as it came
+pub came_back : (setup : Setup) (m : MessageText) (source : Hop) (top : Option ReadTop) (fault : RequestRejection) (back : MessageText)
+    → IsTopOf m source top → IsGivenBack setup m source fault back → fault ≡ BadRequest → IsTopOf back source top
+came_back setup m source top fault back is h e =
+    let P : RequestRejection → Type 0 = λ f. IsGivenBack setup m source f back in
+    let Q : MessageText → Type 0 = λ x. IsTopOf x source top in
+    subst Q (sym (subst P e h)) is
 
 -- by one of the first five steps
 pub stopped_by : (setup : Setup) (m : MessageText) (source : Hop) (fault : RequestRejection) (handled : Handled) (sent : Option Datagram)

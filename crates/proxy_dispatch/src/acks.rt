@@ -2,6 +2,7 @@
 //! on.
 ghost use Rattle.std.specs.Prelude.{◌≡◌, ◌↔◌, [], IfOk, IfSome, IsOk, IsTrue, Some, true};
 ghost use Rattle.sip_text.specs.Name.{first_value};
+ghost use Rattle.sip_via.specs.ReadTop.{IsTopOf};
 ghost use Rattle.sip_route.specs.Hops.{IsHops, hops_name};
 ghost use Rattle.sip_build.specs.Forwarding.{is_request};
 ghost use Rattle.proxy_routing.specs.Admission.{target_uri};
@@ -15,14 +16,14 @@ ghost use Rattle.proxy_dispatch.specs.inner.Sent.{seen_sent};
 use crate::admission::{Admission, Decision};
 use crate::datagrams::Handled;
 use crate::outcome::Outcome;
-use crate::received::ReceivedMessage;
+use crate::received::ReadRequest;
 use fork_call::{Cause, Datagram, Setup, admitted_target};
-use proxy_routing::{hop_to, is_responsible_for, validate_request};
+use proxy_routing::{hop_to, is_responsible_for, validate_read};
 use sip_build::{own_tag, write_forwarded};
 use sip_route::{first_route, loop_key};
 use sip_text::Message;
 use sip_uri::{Hop, SipUri};
-use sip_via::BranchName;
+use sip_via::{BranchName, TopVia};
 use std::alloc::{AllocError, Allocator};
 use std::sync::Wait;
 
@@ -119,11 +120,13 @@ fn passing<A: Allocator + Clone>(
     setup: &Setup<A>,
     ack: Message<A>,
     source: Hop,
+    top: &TopVia<A>,
 ) -> Result<Option<Datagram<A>>, AllocError>
-    requires { is_request ack.start ≡ true }
+    requires request { is_request ack.start ≡ true }
+    requires top { IsTopOf ack source top.now }
     ensures { IfOk result (λ sent. Passes setup.now ack source (seen_sent sent)) }
 {
-    match validate_request(alloc.clone()?, setup, ack, source) {
+    match validate_read(alloc.clone()?, setup, ack, source, top) {
         Ok(request) => going_on(alloc, setup, &request),
         Err(why) => match why.fault().status() {
             Some(_) => Ok(None),
@@ -139,12 +142,14 @@ fn going<A: Allocator + Clone>(
     setup: &Setup<A>,
     ack: Message<A>,
     source: Hop,
+    top: &TopVia<A>,
 ) -> Result<Outcome<A>, AllocError>
     requires request { is_request ack.start ≡ true }
+    requires top { IsTopOf ack source top.now }
     requires other { HasOwnTag ack → ⊥ }
     ensures { IfOk result (λ outcome. AckBecomes setup.now ack source outcome.handled (seen_sent outcome.datagram)) }
 {
-    match passing(alloc, setup, ack, source)? {
+    match passing(alloc, setup, ack, source, top)? {
         None => Ok(Outcome::silent(Handled::Dropped)),
         Some(datagram) => Ok(Outcome::sends(Handled::Forwarded, datagram)),
     }
@@ -156,15 +161,17 @@ pub(crate) fn acknowledged<A: Allocator + Clone, N: Admission<A>, R: Wait>(
     rt: &R,
     setup: &Setup<A>,
     admission: &N,
-    received: ReceivedMessage<A>,
+    received: ReadRequest<A>,
 ) -> Result<Outcome<A>, AllocError>
-    requires { is_request received.message.start ≡ true }
+    requires request { is_request received.message.start ≡ true }
+    requires top { IsTopOf received.message received.source received.top }
     ensures { IfOk result (λ outcome. UnknownBecomes (N.serving admission.now) setup.now received.message received.source received.now purposes.Ack
         [] outcome.handled (seen_sent outcome.datagram)) }
 {
-    let ReceivedMessage {
+    let ReadRequest {
         alloc,
         message: ack,
+        top,
         source,
         now,
     } = received;
@@ -173,8 +180,8 @@ pub(crate) fn acknowledged<A: Allocator + Clone, N: Admission<A>, R: Wait>(
     }
     let decision = admission.decides(rt, &alloc, setup, &ack, source, now)?;
     match decision {
-        Decision::Opens => going(alloc, setup, ack, source),
-        Decision::OpensBy(moment) => going(alloc, &moment, ack, source),
+        Decision::Opens => going(alloc, setup, ack, source, &top),
+        Decision::OpensBy(moment) => going(alloc, &moment, ack, source, &top),
         Decision::Answers(_) => Ok(Outcome::silent(Handled::Dropped)),
         Decision::Leaves => Ok(Outcome::silent(Handled::Dropped)),
     }

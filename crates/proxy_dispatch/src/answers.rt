@@ -4,6 +4,7 @@ ghost use Rattle.std.specs.List.{list_all};
 ghost use Rattle.sip_text.specs.Message.{is_header};
 ghost use Rattle.sip_text.specs.Seen.{view_lines};
 ghost use Rattle.sip_text.specs.Text.{MessageText, spelling};
+ghost use Rattle.sip_via.specs.ReadTop.{IsTopOf, reply_if_read};
 ghost use Rattle.sip_via.specs.Received.{marked, reply_of};
 ghost use Rattle.sip_via.specs.TopVia.{top_value};
 ghost use Rattle.sip_via.specs.ViaParts.{via_of};
@@ -22,11 +23,12 @@ use crate::datagrams::Handled;
 use crate::outcome::Outcome;
 use authentication::OwnAnswer;
 use fork_call::{Cause, Datagram, RequestRejection};
+use proxy_routing::what_was_read_tells_the_reply;
 use sip_build::{OwnStatus, stripping_keeps_answers, write_own_response};
 use sip_route::stripping_keeps_the_rest;
 use sip_text::{HeaderLine, Message};
 use sip_uri::Hop;
-use sip_via::{ViaFault, add_received, reply_hop_of};
+use sip_via::{TopVia, ViaFault, add_source};
 use std::alloc::{AllocError, Allocator};
 
 /// The text of an answer of the proxy's own to this request (RFC 3261 section 8.2.6).
@@ -63,27 +65,24 @@ fn answer_to<A: Allocator>(
     })
 }
 
-/// An answer of the proxy's own to a request that came from `source`: the answer is made of the request with its
+/// An answer of the proxy's own to a request that came from `source`, of whose top Via value this was read: the answer is made of the request with its
 /// source, and goes where the top Via value says (RFC 3261 sections 18.2.1 and 18.2.2). Where that value cannot be
 /// read, the answer is made of the request as it came, and goes back to where the request came from.
-fn answer_of<A: Allocator + Clone>(
+fn answer_of<A: Allocator>(
     alloc: A,
     request: Message<A>,
     source: Hop,
+    top: &TopVia<A>,
     status: OwnStatus,
     further: &[HeaderLine<'_>],
 ) -> Result<Datagram<A>, AllocError>
-    requires { list_all is_header (view_lines further.now) ≡ true }
+    requires top { IsTopOf request source top.now }
+    requires further { list_all is_header (view_lines further.now) ≡ true }
     ensures { IfOk result (λ datagram. seen datagram ≡ answer_of request source status (view_lines further.now)) }
 {
-    match add_received(alloc.clone()?, request, source) {
-        Ok(marked) => answer_to(
-            alloc,
-            &marked,
-            status,
-            further,
-            reply_hop_of(&marked, source),
-        ),
+    what_was_read_tells_the_reply();
+    match add_source(request, source, top) {
+        Ok(marked) => answer_to(alloc, &marked, status, further, top.reply_hop(source)),
         Err(unmarked) => match unmarked.fault {
             ViaFault::BadVia => answer_to(alloc, &unmarked.message, status, further, source),
             ViaFault::NoMemory => Err(AllocError),
@@ -92,48 +91,52 @@ fn answer_of<A: Allocator + Clone>(
 }
 
 /// What becomes of a request that came from `source` and is answered with this status.
-pub(crate) fn answered<A: Allocator + Clone>(
+pub(crate) fn answered<A: Allocator>(
     alloc: A,
     request: Message<A>,
     source: Hop,
+    top: &TopVia<A>,
     status: OwnStatus,
 ) -> Result<Outcome<A>, AllocError>
+    requires { IsTopOf request source top.now }
     ensures handled { IfOk result (λ outcome. outcome.handled ≡ handled.Answered (code_of status)) }
     ensures sent { IfOk result (λ outcome. seen_sent outcome.datagram ≡ Some (answer_of request source status [])) }
 {
-    let datagram = answer_of(alloc, request, source, status, &[])?;
+    let datagram = answer_of(alloc, request, source, top, status, &[])?;
     Ok(Outcome::sends(Handled::Answered(status.code()), datagram))
 }
 
-/// What becomes of a request that has its source and is answered so.
+/// What becomes of a request that has its source and is answered so, by an answer that goes to this hop.
 pub(crate) fn marked_answer<A: Allocator + Clone>(
     alloc: A,
     request: &Message<A>,
-    source: Hop,
+    to: Hop,
     answer: &OwnAnswer<A>,
 ) -> Result<Outcome<A>, AllocError>
     ensures handled { IfOk result (λ outcome. outcome.handled ≡ handled.Answered (code_of answer.now.status)) }
     // It is the answer to the request as it came, of which that one was marked with its source, and maybe prepared.
-    ensures marked { (m : MessageText) → marked m source ≡ Ok request.now
+    ensures marked { (m : MessageText) (source : Hop) → marked m source ≡ Ok request.now → to ≡ reply_of (via_of (top_value request.now)) source
         → IfOk result (λ outcome. seen_sent outcome.datagram ≡ Some (answer_of m source answer.now.status answer.now.lines)) }
-    ensures prepared { (setup : Setup) (m : MessageText) → IsPrepared setup m source request.now
+    ensures prepared { (setup : Setup) (m : MessageText) (source : Hop) → IsPrepared setup m source request.now
+        → to ≡ reply_of (via_of (top_value request.now)) source
         → IfOk result (λ outcome. seen_sent outcome.datagram ≡ Some (answer_of m source answer.now.status answer.now.lines)) }
 {
     stripping_keeps_answers();
     stripping_keeps_the_rest();
     let lines = answer.further_lines(alloc.clone()?)?;
-    let to = reply_hop_of(request, source);
     let datagram = answer_to(alloc, request, answer.status(), &lines, to)?;
     Ok(Outcome::sends(Handled::Answered(answer.status().code()), datagram))
 }
 
 /// What becomes of an OPTIONS request to the proxy itself that came from `source`: a 200 says what the proxy takes (RFC 3261
 /// section 11.2).
-pub(crate) fn told<A: Allocator + Clone>(
+pub(crate) fn told<A: Allocator>(
     alloc: A,
     request: Message<A>,
     source: Hop,
+    top: &TopVia<A>,
 ) -> Result<Outcome<A>, AllocError>
+    requires { IsTopOf request source top.now }
     ensures handled { IfOk result (λ outcome. outcome.handled ≡ handled.Answered 200) }
     ensures sent { IfOk result (λ outcome. seen_sent outcome.datagram ≡ Some (capabilities_to request source)) }
 {
@@ -147,17 +150,19 @@ pub(crate) fn told<A: Allocator + Clone>(
             value: b"application/sdp",
         },
     ];
-    let datagram = answer_of(alloc, request, source, OwnStatus::Okay, &capabilities)?;
+    let datagram = answer_of(alloc, request, source, top, OwnStatus::Okay, &capabilities)?;
     Ok(Outcome::sends(Handled::Answered(200), datagram))
 }
 
 /// What becomes of a request that came from `source` and is turned away: a 503 says after how many seconds it may come again
 /// (RFC 3261 sections 20.33 and 21.5.4).
-pub(crate) fn turned_away<A: Allocator + Clone>(
+pub(crate) fn turned_away<A: Allocator>(
     alloc: A,
     request: Message<A>,
     source: Hop,
+    top: &TopVia<A>,
 ) -> Result<Outcome<A>, AllocError>
+    requires { IsTopOf request source top.now }
     ensures handled { IfOk result (λ outcome. outcome.handled ≡ handled.TurnedAway) }
     ensures sent { IfOk result (λ outcome. seen_sent outcome.datagram ≡ Some (unavailable_to request source)) }
 {
@@ -169,6 +174,7 @@ pub(crate) fn turned_away<A: Allocator + Clone>(
         alloc,
         request,
         source,
+        top,
         OwnStatus::ServiceUnavailable,
         &retry,
     )?;
@@ -192,40 +198,45 @@ fn rejection_status(fault: RequestRejection) -> OwnStatus
     }
 }
 
-/// An answer of the proxy's own to a request that has its source, or, where it is not well formed, is yet to get it.
-fn rejection_of<A: Allocator + Clone>(
+/// An answer of the proxy's own to a request that has its source, or, where it is not well formed, is yet to get it; this was read of its
+/// top Via value as it came.
+fn rejection_of<A: Allocator>(
     alloc: A,
     request: Message<A>,
     source: Hop,
+    top: &TopVia<A>,
     fault: RequestRejection,
     status: OwnStatus,
 ) -> Result<Datagram<A>, AllocError>
+    requires { fault ≡ RequestRejection.BadRequest → IsTopOf request source top.now }
     ensures plain { fault ≡ RequestRejection.BadRequest → IfOk result (λ datagram. seen datagram ≡ answer_of request source status []) }
     ensures marked { fault ≢ RequestRejection.BadRequest
-        → IfOk result (λ datagram. seen datagram ≡ answer_to request status [] (reply_of (via_of (top_value request)) source)) }
+        → IfOk result (λ datagram. seen datagram ≡ answer_to request status [] (reply_if_read top.now source)) }
 {
     if fault == RequestRejection::BadRequest {
-        return answer_of(alloc, request, source, status, &[]);
+        return answer_of(alloc, request, source, top, status, &[]);
     }
-    let to = reply_hop_of(&request, source);
-    answer_to(alloc, &request, status, &[], to)
+    answer_to(alloc, &request, status, &[], top.reply_hop(source))
 }
 
 /// What becomes of a request from `source` that opens no call for this cause, and was given back as far as it was prepared: it is
-/// answered with the status that tells the cause (RFC 3261 section 16.3).
-pub(crate) fn rejected<A: Allocator + Clone>(
+/// answered with the status that tells the cause (RFC 3261 section 16.3). This was read of its top Via value as it came.
+pub(crate) fn rejected<A: Allocator>(
     alloc: A,
     request: Message<A>,
     source: Hop,
+    top: &TopVia<A>,
     fault: RequestRejection,
 ) -> Result<Outcome<A>, AllocError>
-    requires { fault ≢ RequestRejection.NoMemory }
-    ensures { (setup : Setup) (m : MessageText) → IsRefusedFor setup m source fault request
+    requires some { fault ≢ RequestRejection.NoMemory }
+    requires top { fault ≡ RequestRejection.BadRequest → IsTopOf request source top.now }
+    ensures { (setup : Setup) (m : MessageText) → IsTopOf m source top.now → IsRefusedFor setup m source fault request
         → IfOk result (λ outcome. IsRejectedBy setup m source fault [] outcome.handled (seen_sent outcome.datagram)) }
 {
     stripping_keeps_answers();
     stripping_keeps_the_rest();
+    what_was_read_tells_the_reply();
     let status = rejection_status(fault);
-    let datagram = rejection_of(alloc, request, source, fault, status)?;
+    let datagram = rejection_of(alloc, request, source, top, fault, status)?;
     Ok(Outcome::sends(Handled::Answered(status.code()), datagram))
 }

@@ -1,6 +1,8 @@
 //! The calls of a proxy, as one thread sees them.
-ghost use Rattle.std.specs.Prelude.{◌≡◌, Some, true, IfErr, IfNone, IfOk, IfSome};
+ghost use Rattle.std.specs.Prelude.{◌≡◌, Some, false, true, IfErr, IfNone, IfOk, IfSome};
+ghost use Rattle.sip_via.specs.ReadTop.{IsTopOf};
 ghost use Rattle.sip_via.specs.TopVia.{top_value};
+ghost use Rattle.sip_route.specs.RequestKey.{request_key};
 ghost use Rattle.call_model.specs.Call as spec;
 ghost use Rattle.call_model.specs.Call.{numbered};
 ghost use Rattle.call_state.specs.Kinds.{is_response};
@@ -8,6 +10,7 @@ ghost use Rattle.call_state.specs.Matching.{IsReadBranch};
 ghost use Rattle.call_table.specs.Faults.{IfKnown, IfSpent};
 ghost use Rattle.proxy_dispatch.specs.Looks.{AnswersTake, Found, Missed, Put, Seen, Spent, shown};
 
+use crate::received::ReadRequest;
 use call_table::{PendingFault, Shelf};
 use fork_call::{Call, PendingCall, TakeFault, Taken};
 use sip_text::Message;
@@ -35,6 +38,28 @@ fn take<A: Allocator + Clone>(
     ensures number { call.new.opened.number ≡ call.old.opened.number }
 {
     call.take(message, source, now)
+}
+
+/// Gives a request that was read, with this key, to a call.
+#[tactic(auto, using(crate::proofs::Taking::answers_so, crate::proofs::Taking::number_kept))]
+fn take_request<A: Allocator + Clone>(
+    call: &mut Call<A>,
+    received: ReadRequest<A>,
+    key: &[u8],
+) -> Result<Taken, TakeFault>
+    requires request { is_response received.message.start ≡ false }
+    requires key { request_key received.message ≡ Some key.now }
+    requires top { IsTopOf received.message received.source received.top }
+    ensures answer { AnswersTake call.old received.message received.source received.now result call.new }
+    ensures number { call.new.opened.number ≡ call.old.opened.number }
+{
+    call.take_request(
+        received.message,
+        key,
+        &received.top,
+        received.source,
+        received.now,
+    )
 }
 
 /// Gives a response to a call. Its branch is read again where the call was opened at another address.
@@ -116,6 +141,27 @@ impl<'a, A: Allocator + Clone> SharedCalls<'a, A> {
     {
         self.shelf
             .with(rt, number, |call| take(call, message, source, now))
+    }
+
+    /// Gives a request that was read, with this key, to the call of a number, as `take` does.
+    #[tactic(auto, unfolding(crate::specs::Looks::shown))]
+    pub(crate) fn take_request<R: Wait>(
+        &mut self,
+        rt: &R,
+        number: u64,
+        received: ReadRequest<A>,
+        key: &[u8],
+    ) -> Option<Result<Taken, TakeFault>>
+        requires request { is_response received.message.start ≡ false }
+        requires key { request_key received.message ≡ Some key.now }
+        requires top { IsTopOf received.message received.source received.top }
+        ensures seen { IfSome result (λ answer. (before : spec.Call) × (after : spec.Call) × (before.opened.number ≡ number)
+            × shown self.old (Seen number before after) self.new
+            × AnswersTake before received.message received.source received.now answer after) }
+        ensures missed { IfNone result (shown self.old (Missed number) self.new) }
+    {
+        self.shelf
+            .with(rt, number, |call| take_request(call, received, key))
     }
 
     /// Gives a response to the call that the branch of its top Via value names, as `take` does.

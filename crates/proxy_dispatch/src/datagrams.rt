@@ -21,6 +21,7 @@ use fork_call::{Datagram, Port, Setup};
 use sip_build::OwnStatus;
 use sip_text::{Message, ReadFault, faults_are_of_the_text};
 use sip_uri::Hop;
+use sip_via::TopVia;
 use std::alloc::{AllocError, Allocator};
 use std::sync::Wait;
 
@@ -79,7 +80,8 @@ fn of_head<A: Allocator + Clone>(
     ensures { IfOk result (λ outcome. FaultBecomes (Short head) source outcome.handled (seen_sent outcome.datagram)) }
 {
     if is_answered(purpose_of(&head)) {
-        answered(alloc, head, source, OwnStatus::BadRequest)
+        let top = TopVia::of(&alloc, &head, source)?;
+        answered(alloc, head, source, &top, OwnStatus::BadRequest)
     } else {
         Ok(Outcome::silent(Handled::Dropped))
     }

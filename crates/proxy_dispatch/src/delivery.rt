@@ -1,8 +1,10 @@
 //! Messages that are given to calls.
-ghost use Rattle.std.specs.Prelude.{◌≡◌, ◌∷◌, [], ℕ, List, IfOk, true};
+ghost use Rattle.std.specs.Prelude.{◌≡◌, ◌∷◌, [], ℕ, List, IfOk, Some, false, true};
 ghost use Rattle.sip_text.specs.Text.{MessageText};
 ghost use Rattle.sip_uri.specs.declared.hop.Hop.{Hop};
+ghost use Rattle.sip_via.specs.ReadTop.{IsTopOf};
 ghost use Rattle.sip_via.specs.TopVia.{top_value};
+ghost use Rattle.sip_route.specs.RequestKey.{request_key};
 ghost use Rattle.call_model.specs.Call as spec;
 ghost use Rattle.call_state.specs.Kinds.{is_response};
 ghost use Rattle.call_state.specs.Matching.{IsReadBranch};
@@ -13,6 +15,7 @@ ghost use Rattle.proxy_dispatch.specs.inner.Sent.{seen_sent};
 use crate::calls::{ReadBranch, SharedCalls};
 use crate::datagrams::Handled;
 use crate::outcome::Outcome;
+use crate::received::ReadRequest;
 use fork_call::{TakeFault, Taken};
 use sip_text::Message;
 use sip_uri::Hop;
@@ -56,6 +59,31 @@ pub(crate) fn deliver<A: Allocator + Clone, R: Wait>(
         × IsGiven number request source now looks outcome.handled (seen_sent outcome.datagram)) }
 {
     match table.take(rt, number, request, source, now) {
+        Some(answer) => answered_by(number, answer),
+        None => Ok(Outcome::silent(Handled::Dropped)),
+    }
+}
+
+/// What becomes of a request that was read, with this key, for the call of that number: it is dropped where the call does not take it,
+/// and where there is none.
+///
+/// # Errors
+///
+/// Only where the allocator refuses; the call is then as it was.
+pub(crate) fn deliver_request<A: Allocator + Clone, R: Wait>(
+    rt: &R,
+    table: &mut SharedCalls<'_, A>,
+    number: u64,
+    received: ReadRequest<A>,
+    key: &[u8],
+) -> Result<Outcome<A>, AllocError>
+    requires request { is_response received.message.start ≡ false }
+    requires key { request_key received.message ≡ Some key.now }
+    requires top { IsTopOf received.message received.source received.top }
+    ensures { IfOk result (λ outcome. (looks : List Look) × ShowsAll shown table.old looks table.new
+        × IsGiven number received.message received.source received.now looks outcome.handled (seen_sent outcome.datagram)) }
+{
+    match table.take_request(rt, number, received, key) {
         Some(answer) => answered_by(number, answer),
         None => Ok(Outcome::silent(Handled::Dropped)),
     }

@@ -1,7 +1,10 @@
 //! REGISTERs for the domain, which the registrar answers (RFC 3261 section 10.3).
 ghost use Rattle.std.specs.Prelude.{◌≡◌, [], IfOk, Ok};
 ghost use Rattle.sip_text.specs.Text.{MessageText};
-ghost use Rattle.sip_via.specs.Received.{marked};
+ghost use Rattle.sip_via.specs.ReadTop.{IsTopOf};
+ghost use Rattle.sip_via.specs.Received.{marked, reply_of};
+ghost use Rattle.sip_via.specs.TopVia.{top_value};
+ghost use Rattle.sip_via.specs.ViaParts.{via_of};
 ghost use Rattle.proxy_routing.specs.Admission.{asks_extension, has_via};
 ghost use Rattle.proxy_dispatch.specs.Becomes.{MarkedBecomes, RegisteringBecomes};
 ghost use Rattle.proxy_dispatch.specs.inner.Sent.{seen_sent};
@@ -10,17 +13,17 @@ use crate::admission::Admission;
 use crate::answers::{answered, marked_answer};
 use crate::datagrams::Handled;
 use crate::outcome::Outcome;
-use crate::received::ReceivedMessage;
+use crate::received::ReadRequest;
 use fork_call::Setup;
-use proxy_routing::{asks_extension, has_via};
+use proxy_routing::{asks_extension, what_was_read_tells_the_reply};
 use sip_build::OwnStatus;
 use sip_text::Message;
 use sip_uri::Hop;
-use sip_via::{ViaFault, add_received};
+use sip_via::{ViaFault, add_source};
 use std::alloc::{AllocError, Allocator};
 use std::sync::Wait;
 
-/// What becomes of a REGISTER that has its source.
+/// What becomes of a REGISTER that has its source, and whose answer goes to this hop.
 fn of_registrar<A: Allocator + Clone, N: Admission<A>, R: Wait>(
     rt: &R,
     setup: &Setup<A>,
@@ -28,13 +31,15 @@ fn of_registrar<A: Allocator + Clone, N: Admission<A>, R: Wait>(
     alloc: A,
     request: &Message<A>,
     source: Hop,
+    to: Hop,
     now: u64,
 ) -> Result<Outcome<A>, AllocError>
+    requires { to ≡ reply_of (via_of (top_value request.now)) source }
     ensures { (m : MessageText) → marked m source ≡ Ok request.now
         → IfOk result (λ outcome. MarkedBecomes (Ok request.now) (N.serving admission.now) setup.now m source now [] outcome.handled (seen_sent outcome.datagram)) }
 {
     match admission.registers(rt, &alloc, setup, request, source, now)? {
-        Some(answer) => marked_answer(alloc, request, source, &answer),
+        Some(answer) => marked_answer(alloc, request, to, &answer),
         None => Ok(Outcome::silent(Handled::Left)),
     }
 }
@@ -44,21 +49,33 @@ fn asked<A: Allocator + Clone, N: Admission<A>, R: Wait>(
     rt: &R,
     setup: &Setup<A>,
     admission: &N,
-    received: ReceivedMessage<A>,
+    received: ReadRequest<A>,
 ) -> Result<Outcome<A>, AllocError>
+    requires { IsTopOf received.message received.source received.top }
     ensures { IfOk result (λ outcome. MarkedBecomes (marked received.message received.source) (N.serving admission.now) setup.now
         received.message received.source received.now [] outcome.handled (seen_sent outcome.datagram)) }
 {
-    let ReceivedMessage {
+    what_was_read_tells_the_reply();
+    let ReadRequest {
         alloc,
         message,
+        top,
         source,
         now,
     } = received;
-    match add_received(alloc.clone()?, message, source) {
-        Ok(request) => of_registrar(rt, setup, admission, alloc, &request, source, now),
+    match add_source(message, source, &top) {
+        Ok(request) => {
+            let to = top.reply_hop(source);
+            of_registrar(rt, setup, admission, alloc, &request, source, to, now)
+        }
         Err(unmarked) => match unmarked.fault {
-            ViaFault::BadVia => answered(alloc, unmarked.message, source, OwnStatus::BadRequest),
+            ViaFault::BadVia => answered(
+                alloc,
+                unmarked.message,
+                source,
+                &top,
+                OwnStatus::BadRequest,
+            ),
             ViaFault::NoMemory => Err(AllocError),
         },
     }
@@ -70,16 +87,18 @@ pub(crate) fn registered<A: Allocator + Clone, N: Admission<A>, R: Wait>(
     rt: &R,
     setup: &Setup<A>,
     admission: &N,
-    received: ReceivedMessage<A>,
+    received: ReadRequest<A>,
 ) -> Result<Outcome<A>, AllocError>
+    requires { IsTopOf received.message received.source received.top }
     ensures { IfOk result (λ outcome. RegisteringBecomes (has_via received.message) (asks_extension received.message) (N.serving admission.now)
         setup.now received.message received.source received.now [] outcome.handled (seen_sent outcome.datagram)) }
 {
-    if !has_via(&received.message) {
+    if !received.top.has_cookie() {
         return answered(
             received.alloc,
             received.message,
             received.source,
+            &received.top,
             OwnStatus::BadRequest,
         );
     }
@@ -88,6 +107,7 @@ pub(crate) fn registered<A: Allocator + Clone, N: Admission<A>, R: Wait>(
             received.alloc,
             received.message,
             received.source,
+            &received.top,
             OwnStatus::BadExtension,
         );
     }

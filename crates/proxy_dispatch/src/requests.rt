@@ -1,8 +1,12 @@
 //! Requests: known by their keys, or new.
-ghost use Rattle.std.specs.Prelude.{◌≡◌, ℕ, false, List, [], IfErr, IfOk, OnErr, Some};
+ghost use Rattle.std.specs.Prelude.{◌≡◌, ℕ, false, List, [], IfErr, IfOk, OnErr, Result, Some};
 ghost use Rattle.std.specs.Option.{option_map};
 ghost use Rattle.sip_build.specs.Forwarding.{is_request};
-ghost use Rattle.sip_route.specs.RequestKey.{request_key};
+ghost use Rattle.sip_via.specs.declared.own.ViaFault.{ViaFault};
+ghost use Rattle.sip_via.specs.ReadTop.{IsTopOf};
+ghost use Rattle.sip_via.specs.Sender.{seen_sender, sender_if_read};
+ghost use Rattle.sip_via.specs.ViaParts.{ViaText};
+ghost use Rattle.sip_route.specs.RequestKey.{key_if_read, request_key};
 ghost use Rattle.call_model.specs.Call.{numbered};
 ghost use Rattle.fork_call.specs.Opening.{IsOpenable, Opens};
 ghost use Rattle.proxy_config.specs.Setup as spec;
@@ -23,30 +27,57 @@ use crate::answers::{answered, marked_answer, rejected, told, turned_away};
 use crate::asking::asks_service;
 use crate::calls::SharedCalls;
 use crate::datagrams::Handled;
-use crate::delivery::deliver;
+use crate::delivery::{deliver, deliver_request};
 use crate::outcome::Outcome;
 use crate::purpose::RequestKind;
-use crate::received::ReceivedMessage;
+use crate::received::{ReadRequest, ReceivedMessage};
 use crate::registers::registered;
 use authentication::OwnAnswer;
 use call_table::PendingFault;
-use fork_call::{OpeningRequest, PendingCall, PreparedRequest, Setup, Unrouted, prepare};
+use fork_call::{OpeningRequest, PendingCall, PreparedRequest, Setup, Unrouted, prepare_read};
 use sip_build::OwnStatus;
-use sip_route::append_request_key;
+use sip_route::append_sender_key;
 use sip_text::Message;
 use sip_uri::Hop;
+use sip_via::{Sender, TopVia, read_top};
 use std::alloc::{AllocError, Allocator};
 use std::sync::Wait;
 
-/// The key of a request, by which it is known when it comes again, with its ACK and its CANCEL (RFC 3261 section 17.2.3).
-fn key_of<A: Allocator>(alloc: A, request: &Message<A>) -> Result<Option<Vec<u8, A>>, AllocError>
-    ensures { IfOk result (λ key. option_map (λ text. text.items) key ≡ request_key request.now) }
+/// The key of a request whose top Via value names this sender, by which the request is known when it comes again, with its ACK and its
+/// CANCEL (RFC 3261 section 17.2.3).
+fn key_of<A: Allocator>(
+    alloc: A,
+    sender: Option<Sender<'_>>,
+) -> Result<Option<Vec<u8, A>>, AllocError>
+    ensures { (read : Result ViaText ViaFault) → option_map seen_sender sender.entry ≡ sender_if_read read
+        → IfOk result (λ key. option_map (λ text. text.items) key ≡ key_if_read read) }
 {
+    let Some(sender) = sender else {
+        return Ok(None);
+    };
     let mut key = Vec::new(alloc);
-    if append_request_key(&mut key, request)? {
+    if append_sender_key(&mut key, sender)? {
         Ok(Some(key))
     } else {
         Ok(None)
+    }
+}
+
+/// What is read of the top Via value of a request that came from `source`, and its key: the value is cut once.
+fn read_request<A: Allocator + Clone>(
+    alloc: &A,
+    request: &Message<A>,
+    source: Hop,
+) -> Result<(TopVia<A>, Option<Vec<u8, A>>), AllocError>
+    ensures top { IfOk result (λ read. IsTopOf request.now source read.0) }
+    ensures key { IfOk result (λ read. option_map (λ text. text.items) read.1 ≡ request_key request.now) }
+{
+    match read_top(alloc, request, source) {
+        Ok((top, sender)) => {
+            let key = key_of(alloc.clone()?, sender)?;
+            Ok((top, key))
+        }
+        Err(AllocError) => Err(AllocError),
     }
 }
 
@@ -84,18 +115,20 @@ fn opened_by<A: Allocator + Clone, R: Wait>(
     setup: &Setup<A>,
     key: Vec<u8, A>,
     opening: OpeningRequest<A>,
+    top: &TopVia<A>,
 ) -> Result<Outcome<A>, AllocError>
-    requires { IsOpenable opening.request.start }
+    requires openable { IsOpenable opening.request.start }
+    requires top { IsTopOf opening.request opening.source top.now }
     ensures { IfOk result (λ outcome. (looks : List Look) × ShowsAll shown table.old looks table.new
         × OpeningBecomes setup.now opening.request opening.source opening.now key.items looks outcome.handled (seen_sent outcome.datagram)) }
 {
     let alloc = opening.alloc.clone()?;
     let source = opening.source;
     let now = opening.now;
-    match PendingCall::new(setup, opening) {
+    match PendingCall::new_read(setup, opening, top) {
         Ok(pending) => put(rt, table, key, pending, source, now),
         Err(why) => match why {
-            Unrouted::Rejected(fault, request) => rejected(alloc, request, source, fault),
+            Unrouted::Rejected(fault, request) => rejected(alloc, request, source, top, fault),
             Unrouted::NoMemory => Err(AllocError),
         },
     }
@@ -105,18 +138,22 @@ fn opened_by<A: Allocator + Clone, R: Wait>(
 fn prepared<A: Allocator + Clone>(
     setup: &Setup<A>,
     opening: OpeningRequest<A>,
+    top: &TopVia<A>,
 ) -> Result<Result<PreparedRequest<A>, Outcome<A>>, AllocError>
-    requires { IsOpenable opening.request.start }
+    requires openable { IsOpenable opening.request.start }
+    requires top { IsTopOf opening.request opening.source top.now }
     ensures passed { IfOk result (λ r. IfOk r (IsPreparedAs setup.now opening.request opening.source)) }
     ensures stopped { IfOk result (λ r. IfErr r (λ outcome.
         IsStopped setup.now opening.request opening.source [] outcome.handled (seen_sent outcome.datagram))) }
 {
     let alloc = opening.alloc.clone()?;
     let source = opening.source;
-    match prepare(setup, opening) {
+    match prepare_read(setup, opening, top) {
         Ok(prepared) => Ok(Ok(prepared)),
         Err(why) => match why {
-            Unrouted::Rejected(fault, request) => Ok(Err(rejected(alloc, request, source, fault)?)),
+            Unrouted::Rejected(fault, request) => Ok(Err(rejected(
+                alloc, request, source, top, fault,
+            )?)),
             Unrouted::NoMemory => Err(AllocError),
         },
     }
@@ -126,16 +163,17 @@ fn prepared<A: Allocator + Clone>(
 fn refused<A: Allocator + Clone>(
     setup: &Setup<A>,
     opening: OpeningRequest<A>,
+    top: &TopVia<A>,
     answer: &OwnAnswer<A>,
 ) -> Result<Outcome<A>, AllocError>
-    requires { IsOpenable opening.request.start }
+    requires openable { IsOpenable opening.request.start }
+    requires top { IsTopOf opening.request opening.source top.now }
     ensures { IfOk result (λ outcome. DecidedBecomes (decisions.Answers answer.now) setup.now opening.request opening.source opening.now []
         [] outcome.handled (seen_sent outcome.datagram)) }
 {
     let alloc = opening.alloc.clone()?;
-    let source = opening.source;
-    match prepared(setup, opening)? {
-        Ok(prepared) => marked_answer(alloc, prepared.request(), source, answer),
+    match prepared(setup, opening, top)? {
+        Ok(prepared) => marked_answer(alloc, prepared.request(), prepared.caller(), answer),
         Err(outcome) => Ok(outcome),
     }
 }
@@ -144,12 +182,14 @@ fn refused<A: Allocator + Clone>(
 fn left<A: Allocator + Clone>(
     setup: &Setup<A>,
     opening: OpeningRequest<A>,
+    top: &TopVia<A>,
 ) -> Result<Outcome<A>, AllocError>
-    requires { IsOpenable opening.request.start }
+    requires openable { IsOpenable opening.request.start }
+    requires top { IsTopOf opening.request opening.source top.now }
     ensures { IfOk result (λ outcome. DecidedBecomes decisions.Leaves setup.now opening.request opening.source opening.now []
         [] outcome.handled (seen_sent outcome.datagram)) }
 {
-    match prepared(setup, opening)? {
+    match prepared(setup, opening, top)? {
         Ok(_) => Ok(Outcome::silent(Handled::Left)),
         Err(outcome) => Ok(outcome),
     }
@@ -162,18 +202,20 @@ fn decided<A: Allocator + Clone, R: Wait>(
     setup: &Setup<A>,
     key: Vec<u8, A>,
     opening: OpeningRequest<A>,
+    top: &TopVia<A>,
     decision: Decision<A>,
 ) -> Result<Outcome<A>, AllocError>
-    requires { IsOpenable opening.request.start }
+    requires openable { IsOpenable opening.request.start }
+    requires top { IsTopOf opening.request opening.source top.now }
     ensures { IfOk result (λ outcome. (looks : List Look) × ShowsAll shown table.old looks table.new
         × DecidedBecomes (seen_decision setup.now decision) setup.now opening.request opening.source opening.now key.items
         looks outcome.handled (seen_sent outcome.datagram)) }
 {
     match decision {
-        Decision::Opens => opened_by(rt, table, setup, key, opening),
-        Decision::OpensBy(moment) => opened_by(rt, table, &moment, key, opening),
-        Decision::Answers(answer) => refused(setup, opening, &answer),
-        Decision::Leaves => left(setup, opening),
+        Decision::Opens => opened_by(rt, table, setup, key, opening, top),
+        Decision::OpensBy(moment) => opened_by(rt, table, &moment, key, opening, top),
+        Decision::Answers(answer) => refused(setup, opening, top, &answer),
+        Decision::Leaves => left(setup, opening, top),
     }
 }
 
@@ -186,16 +228,18 @@ fn opened<A: Allocator + Clone, N: Admission<A>, R: Wait>(
     setup: &Setup<A>,
     admission: &N,
     key: Vec<u8, A>,
-    received: ReceivedMessage<A>,
+    received: ReadRequest<A>,
 ) -> Result<Outcome<A>, AllocError>
-    requires { purpose_of received.message.start ≡ Some purposes.Opening }
+    requires purpose { purpose_of received.message.start ≡ Some purposes.Opening }
+    requires top { IsTopOf received.message received.source received.top }
     ensures { IfOk result (λ outcome. (looks : List Look) × ShowsAll shown table.old looks table.new
         × AdmittedBecomes false (N.serving admission.now) setup.now received.message received.source received.now key.items
         looks outcome.handled (seen_sent outcome.datagram)) }
 {
-    let ReceivedMessage {
+    let ReadRequest {
         alloc,
         message: request,
+        top,
         source,
         now,
     } = received;
@@ -206,7 +250,7 @@ fn opened<A: Allocator + Clone, N: Admission<A>, R: Wait>(
         source,
         now,
     };
-    decided(rt, table, setup, key, opening, decision)
+    decided(rt, table, setup, key, opening, &top, decision)
 }
 
 /// Whether it is a REGISTER for the domain that the request would do.
@@ -225,9 +269,10 @@ fn admitted<A: Allocator + Clone, N: Admission<A>, R: Wait>(
     admission: &N,
     opener: Opener,
     key: Vec<u8, A>,
-    received: ReceivedMessage<A>,
+    received: ReadRequest<A>,
 ) -> Result<Outcome<A>, AllocError>
-    requires { purpose_of received.message.start ≡ Some purposes.Opening }
+    requires purpose { purpose_of received.message.start ≡ Some purposes.Opening }
+    requires top { IsTopOf received.message received.source received.top }
     ensures { IfOk result (λ outcome. (looks : List Look) × ShowsAll shown table.old looks table.new
         × OpenerBecomes opener (N.serving admission.now) setup.now received.message received.source received.now key.items
         looks outcome.handled (seen_sent outcome.datagram)) }
@@ -236,7 +281,12 @@ fn admitted<A: Allocator + Clone, N: Admission<A>, R: Wait>(
         return registered(rt, setup, admission, received);
     }
     if asks_service(received.alloc.clone()?, setup, &received.message)? {
-        return told(received.alloc, received.message, received.source);
+        return told(
+            received.alloc,
+            received.message,
+            received.source,
+            &received.top,
+        );
     }
     opened(rt, table, setup, admission, key, received)
 }
@@ -260,9 +310,10 @@ fn asked<A: Allocator + Clone, N: Admission<A>, R: Wait>(
     setup: &Setup<A>,
     admission: &N,
     key: Vec<u8, A>,
-    received: ReceivedMessage<A>,
+    received: ReadRequest<A>,
 ) -> Result<Outcome<A>, AllocError>
-    requires { purpose_of received.message.start ≡ Some purposes.Opening }
+    requires purpose { purpose_of received.message.start ≡ Some purposes.Opening }
+    requires top { IsTopOf received.message received.source received.top }
     ensures { IfOk result (λ outcome. (looks : List Look) × ShowsAll shown table.old looks table.new
         × NewBecomes (N.serving admission.now) setup.now received.message received.source received.now (Some key.items)
         looks outcome.handled (seen_sent outcome.datagram)) }
@@ -275,7 +326,12 @@ fn asked<A: Allocator + Clone, N: Admission<A>, R: Wait>(
         &received.message,
     )?;
     if !admission.admits(rt, opener) {
-        return turned_away(received.alloc, received.message, received.source);
+        return turned_away(
+            received.alloc,
+            received.message,
+            received.source,
+            &received.top,
+        );
     }
     let outcome = admitted(rt, table, setup, admission, opener, key, received);
     if !has_opened(&outcome) {
@@ -293,9 +349,10 @@ fn unknown<A: Allocator + Clone, N: Admission<A>, R: Wait>(
     setup: &Setup<A>,
     admission: &N,
     key: Option<Vec<u8, A>>,
-    received: ReceivedMessage<A>,
+    received: ReadRequest<A>,
     purpose: RequestKind,
 ) -> Result<Outcome<A>, AllocError>
+    requires top { IsTopOf received.message received.source received.top }
     requires purpose { purpose_of received.message.start ≡ Some purpose }
     requires key { option_map (λ text. text.items) key ≡ request_key received.message }
     ensures { IfOk result (λ outcome. (looks : List Look) × ShowsAll shown table.old looks table.new
@@ -308,6 +365,7 @@ fn unknown<A: Allocator + Clone, N: Admission<A>, R: Wait>(
             received.alloc,
             received.message,
             received.source,
+            &received.top,
             OwnStatus::CallDoesNotExist,
         ),
         RequestKind::Opening => match key {
@@ -316,6 +374,7 @@ fn unknown<A: Allocator + Clone, N: Admission<A>, R: Wait>(
                 received.alloc,
                 received.message,
                 received.source,
+                &received.top,
                 OwnStatus::BadRequest,
             ),
         },
@@ -341,19 +400,26 @@ pub(crate) fn requested<A: Allocator + Clone, N: Admission<A>, R: Wait>(
         × RequestBecomes (N.serving admission.now) setup.now received.message received.source received.now purpose
         looks outcome.handled (seen_sent outcome.datagram)) }
 {
-    let key = key_of(received.alloc.clone()?, &received.message)?;
+    let ReceivedMessage {
+        alloc,
+        message,
+        source,
+        now,
+    } = received;
+    let read = read_request(&alloc, &message, source)?;
+    let (top, key) = read;
+    let received = ReadRequest {
+        alloc,
+        message,
+        top,
+        source,
+        now,
+    };
     let Some(text) = &key else {
         return unknown(rt, table, setup, admission, key, received, purpose);
     };
     match table.find(rt, text) {
-        Some(number) => deliver(
-            rt,
-            table,
-            number,
-            received.message,
-            received.source,
-            received.now,
-        ),
+        Some(number) => deliver_request(rt, table, number, received, text),
         None => unknown(rt, table, setup, admission, key, received, purpose),
     }
 }

@@ -22,7 +22,6 @@ use Rattle.proxy_routing.specs.OwnCredentials.{IsWithoutOwnCredentials}
 use Rattle.proxy_routing.specs.OwnRoutes.{without_own_routes}
 use Rattle.sip_route.specs.RouteValues.{is_route, route_values}
 use Rattle.proxy_routing.specs.Admission.{IsPrepared, are_hops, has_cookie, has_via, is_uri_or_other}
-use Rattle.proxy_routing.specs.inner.Admission.{is_formed}
 
 pub ok_refused : {Y : Type 0} (r : Result Y ViaFault) → IsOk r → refusal r ≡ BadVia → ⊥
 ok_refused (Ok y) ok e = absurd cc
@@ -33,13 +32,6 @@ has_hops m e =
     let front : (has_via m && are_hops (hops_of m) && list_all is_route (route_values m)) ≡ true =
     (and_parts (has_via m && are_hops (hops_of m) && list_all is_route (route_values m)) (is_uri_or_other (target_uri m)) e).0 in
     (and_parts (has_via m && are_hops (hops_of m)) (list_all is_route (route_values m)) front).0
-
-read_at : {Y : Type 0} (b : Bool) (r : Result Y ViaFault) (y : Y) → (b ≡ false → r ≡ Err BadVia) → r ≡ Ok y → b ≡ true
-read_at true r y refused e = refl
-read_at false r y refused e = absurd (let f = refused refl in cc)
-
-pub read_if_marked : (m n : MessageText) (source : Hop) → (is_via (top_value m) ≡ false → marked m source ≡ Err BadVia) → marked m source ≡ Ok n → is_via (top_value m) ≡ true
-read_if_marked m n source refused e = read_at (is_via (top_value m)) (marked m source) n refused e
 
 unread_at : {Y : Type 0} (b : Bool) (r : Result Y ViaFault) → (b ≡ true → IsOk r) → refusal r ≡ BadVia → b ≡ false
 unread_at true r ok e = absurd (ok_refused r (ok refl) e)
@@ -52,18 +44,8 @@ unread_if_refused m source ok e = unread_at (is_via (top_value m)) (marked m sou
 abbrev formed_at : MessageText → Bool → Bool
 formed_at m b = has_cookie (if b then Ok (via_of (top_value m)) else Err BadVia) && are_hops (hops_of m) && list_all is_route (route_values m) && is_uri_or_other (target_uri m)
 
-pub formed_if_read : (m : MessageText) → is_formed m ≡ true → is_via (top_value m) ≡ true → is_well_formed m ≡ true
-formed_if_read m e read = ap (formed_at m) read ∙ e
-
 pub unread : (m : MessageText) → is_via (top_value m) ≡ false → is_well_formed m ≡ false
 unread m none = ap (formed_at m) none
-
-unformed_at : (m : MessageText) → is_formed m ≡ false → (b : Bool) → formed_at m b ≡ false
-unformed_at m e true = e
-unformed_at m e false = refl
-
-pub unformed : (m : MessageText) → is_formed m ≡ false → is_well_formed m ≡ false
-unformed m e = unformed_at m e (is_via (top_value m))
 
 scheme_of : {Y : Type 0} (uri : Result Y UriFault) → fault_if_refused uri ≡ Some NotSip → uri ≡ Err NotSip
 scheme_of (Ok y) e = absurd cc

@@ -1,3 +1,4 @@
 pub mod LineValues
 pub mod OwnCredentials
 pub mod OwnRoutes
+pub mod ReadTops

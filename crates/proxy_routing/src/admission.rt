@@ -3,9 +3,9 @@ ghost use Rattle.std.specs.Prelude.{◌≡◌, IfErr, IfOk, IfSome, Ok, true};
 ghost use Rattle.sip_text.specs.Name.{first_value};
 ghost use Rattle.sip_route.specs.Hops.{IsHops, hops_name};
 ghost use Rattle.sip_via.specs.Received.{marked};
+ghost use Rattle.sip_via.specs.ReadTop.{IsTopOf};
 ghost use Rattle.proxy_routing.specs.Admission.{IsAdmitted, IsPrepared, IsRoutable, is_well_formed};
 ghost use Rattle.proxy_routing.specs.Unrouted.{IfRejected, IsTurnedBack};
-ghost use Rattle.proxy_routing.specs.inner.Admission.{is_formed};
 ghost use Rattle.proxy_routing.specs.inner.Unrouted.{IsUnroutableAs};
 
 use crate::checks::{is_formed, is_max_forwards_zero, is_of_another_scheme};
@@ -18,22 +18,21 @@ use proxy_config::Setup;
 use sip_route::{is_loop, max_forwards, request_uri};
 use sip_text::Message;
 use sip_uri::{Hop, uri_fault};
-use sip_via::{ViaFault, add_received, marking_keeps_the_rest, readable_is_marked};
-use std::alloc::Allocator;
+use sip_via::{TopVia, ViaFault, add_source, marking_keeps_the_rest, readable_is_marked};
+use std::alloc::{AllocError, Allocator};
 
-/// The request with its source. Marking reads the top Via value, so what cannot be read is refused here.
-fn with_source<A: Allocator + Clone>(
-    alloc: A,
+/// The request with its source.
+fn with_source<A: Allocator>(
     message: Message<A>,
     source: Hop,
+    top: &TopVia<A>,
 ) -> Result<Message<A>, Unrouted<A>>
-    requires formed { is_formed message ≡ true }
+    requires { IsTopOf message source top.now }
     ensures marked { IfOk result (λ with_source. marked message source ≡ Ok with_source) }
-    ensures formed { IfOk result (λ _. is_well_formed message ≡ true) }
     ensures refused { IfErr result (IfRejected (IsUnroutableAs message source)) }
 {
     readable_is_marked();
-    match add_received(alloc, message, source) {
+    match add_source(message, source, top) {
         Ok(with_source) => Ok(with_source),
         Err(unmarked) => match unmarked.fault {
             ViaFault::BadVia => Err(Unrouted::Rejected(
@@ -46,11 +45,12 @@ fn with_source<A: Allocator + Clone>(
 }
 
 /// The request with its source, where it can be routed: the first three steps of RFC 3261 section 16.3.
-fn routable<A: Allocator + Clone>(
-    alloc: A,
+fn routable<A: Allocator>(
     message: Message<A>,
     source: Hop,
+    top: &TopVia<A>,
 ) -> Result<Message<A>, Unrouted<A>>
+    requires { IsTopOf message source top.now }
     ensures marked { IfOk result (λ with_source. marked message source ≡ Ok with_source) }
     ensures well { IfOk result (λ _. IsRoutable message) }
     ensures hops { IfOk result (λ _. IfSome (first_value hops_name message.headers) IsHops) }
@@ -58,10 +58,10 @@ fn routable<A: Allocator + Clone>(
 {
     let hops = max_forwards(&message);
     let fault = uri_fault(request_uri(&message));
-    if !is_formed(&message, hops, fault) {
+    if !is_formed(&message, top.has_cookie(), hops, fault) {
         return Err(Unrouted::Rejected(RequestRejection::BadRequest, message));
     }
-    let marked = with_source(alloc, message, source)?;
+    let marked = with_source(message, source, top)?;
     if is_of_another_scheme(fault) {
         return Err(Unrouted::Rejected(RequestRejection::Scheme, marked));
     }
@@ -78,7 +78,9 @@ fn prepared<A: Allocator + Clone>(
     setup: &Setup<A>,
     message: Message<A>,
     source: Hop,
+    top: &TopVia<A>,
 ) -> Result<Message<A>, Unrouted<A>>
+    requires { IsTopOf message source top.now }
     ensures routable { IfOk result (λ _. IsRoutable message) }
     ensures prepared { IfOk result (IsPrepared setup.now message source) }
     ensures start { IfOk result (λ request. request.start ≡ message.start) }
@@ -88,9 +90,34 @@ fn prepared<A: Allocator + Clone>(
     marking_keeps_the_rest();
     taking_own_routes_keeps_the_rest();
     taking_credentials_keeps_the_rest();
-    let marked = routable(alloc.clone()?, message, source)?;
+    let marked = routable(message, source, top)?;
     let routed = without_own_routes(setup, marked);
     let request = without_own_credentials(alloc, setup.realm(), routed)?;
+    Ok(request)
+}
+
+/// The request as [`validate_request`] gives it, of whose top Via value this was read: the value is not read again.
+///
+/// # Errors
+///
+/// Those of [`validate_request`].
+pub fn validate_read<A: Allocator + Clone>(
+    alloc: A,
+    setup: &Setup<A>,
+    message: Message<A>,
+    source: Hop,
+    top: &TopVia<A>,
+) -> Result<Message<A>, Unrouted<A>>
+    requires { IsTopOf message source top.now }
+    ensures admitted { IfOk result (IsAdmitted setup.now message source) }
+    ensures start { IfOk result (λ request. request.start ≡ message.start) }
+    ensures hops { IfOk result (λ request. IfSome (first_value hops_name request.headers) IsHops) }
+    ensures refused { IfErr result (IfRejected (IsTurnedBack setup.now message source)) }
+{
+    let request = prepared(alloc, setup, message, source, top)?;
+    if is_loop(&request, setup.own()) {
+        return Err(Unrouted::Rejected(RequestRejection::Loop, request));
+    }
     Ok(request)
 }
 
@@ -113,9 +140,8 @@ pub fn validate_request<A: Allocator + Clone>(
     ensures hops { IfOk result (λ request. IfSome (first_value hops_name request.headers) IsHops) }
     ensures refused { IfErr result (IfRejected (IsTurnedBack setup.now message source)) }
 {
-    let request = prepared(alloc, setup, message, source)?;
-    if is_loop(&request, setup.own()) {
-        return Err(Unrouted::Rejected(RequestRejection::Loop, request));
+    match TopVia::of(&alloc, &message, source) {
+        Ok(top) => validate_read(alloc, setup, message, source, &top),
+        Err(AllocError) => Err(Unrouted::NoMemory),
     }
-    Ok(request)
 }

@@ -8,13 +8,12 @@ ghost use Rattle.sip_uri.specs.Uri.{Uri};
 ghost use Rattle.sip_route.specs.Hops.{hops_of};
 ghost use Rattle.sip_via.specs.BranchText.{cookie};
 ghost use Rattle.sip_via.specs.ViaParts.{or_empty};
-ghost use Rattle.proxy_routing.specs.Admission.{are_hops, asks_extension, begins_with, has_via, is_spent, is_uri_or_other, target_uri};
-ghost use Rattle.proxy_routing.specs.inner.Admission.{is_formed, names_cookie};
+ghost use Rattle.proxy_routing.specs.Admission.{are_hops, asks_extension, begins_with, has_via, is_spent, is_uri_or_other, is_well_formed, target_uri};
 
 use sip_route::{MaxForwards, routes_are_readable};
 use sip_text::Message;
 use sip_uri::UriFault;
-use sip_via::{sender_of, top_branch, top_via};
+use sip_via::{sender_of, top_via};
 use std::alloc::Allocator;
 
 /// Whether a branch begins with the cookie of RFC 3261 section 8.1.1.7.
@@ -25,13 +24,6 @@ fn begins_with_cookie(branch: Option<&[u8]>) -> bool
         None => false,
         Some(branch) => branch.starts_with(b"z9hG4bK"),
     }
-}
-
-/// Whether the branch that the top Via value of a request names begins as RFC 3261 has it.
-fn has_cookie<A: Allocator>(message: &Message<A>) -> bool
-    ensures { result ≡ names_cookie message.now }
-{
-    begins_with_cookie(top_branch(message))
 }
 
 /// Whether the top Via value of a request can be read, and its branch begins as RFC 3261 has it (section 8.1.1.7).
@@ -71,22 +63,20 @@ fn is_uri_or_other(fault: Option<UriFault>) -> bool
     }
 }
 
-/// Whether a request whose Request-URI has this fault has all that routing asks for where its top Via value can be read: a
-/// branch in that value, a Max-Forwards value that is a number, URIs in its Route values, and a Request-URI (RFC 3261
-/// section 16.3 step 1).
+/// Whether a request whose Request-URI has this fault has all that routing asks for: a top Via value that can be read, with a
+/// branch, a Max-Forwards value that is a number, URIs in its Route values, and a Request-URI (RFC 3261 section 16.3 step 1).
 pub(crate) fn is_formed<A: Allocator>(
     message: &Message<A>,
+    via: bool,
     hops: MaxForwards,
     fault: Option<UriFault>,
 ) -> bool
+    requires via { via ≡ has_via message.now }
     requires hops { hops ≡ hops_of message.now }
     requires fault { fault ≡ fault_if_refused (target_uri message.now) }
-    ensures { result ≡ is_formed message.now }
+    ensures { result ≡ is_well_formed message.now }
 {
-    has_cookie(message)
-        && is_max_forwards_readable(hops)
-        && routes_are_readable(message)
-        && is_uri_or_other(fault)
+    via && is_max_forwards_readable(hops) && routes_are_readable(message) && is_uri_or_other(fault)
 }
 
 /// Whether Max-Forwards is 0: no further proxy may pass the request on.

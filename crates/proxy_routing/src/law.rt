@@ -1,12 +1,18 @@
 //! Laws of taking the proxy's own Route values and the credentials for its realm away.
-ghost use Rattle.std.specs.Prelude.{◌≡◌, ℕ, codes, drop, false, List, map, Option, true};
+ghost use Rattle.std.specs.Prelude.{◌≡◌, ℕ, codes, drop, false, List, map, Ok, Option, true};
 ghost use Rattle.sip_lex.specs.Bytes.{trim};
 ghost use Rattle.sip_text.specs.Name.{first_value, same_name, values_of};
 ghost use Rattle.sip_text.specs.Text.{MessageText};
+ghost use Rattle.sip_uri.specs.declared.hop.Hop.{Hop};
+ghost use Rattle.sip_via.specs.ReadTop.{IsTopOf, ReadTop, reply_if_read};
+ghost use Rattle.sip_via.specs.Received.{marked, reply_of};
+ghost use Rattle.sip_via.specs.TopVia.{top_value};
+ghost use Rattle.sip_via.specs.ViaParts.{via_of};
 ghost use Rattle.sip_route.specs.Hops.{hops_name};
 ghost use Rattle.sip_route.specs.Routes.{route_name};
 ghost use Rattle.sip_route.specs.RouteValues.{first_route, route_values};
 ghost use Rattle.proxy_config.specs.Setup.{Setup};
+ghost use Rattle.proxy_routing.specs.Admission.{IsPrepared};
 ghost use Rattle.proxy_routing.specs.OwnCredentials.{IsWithoutOwnCredentials};
 ghost use Rattle.proxy_routing.specs.OwnRoutes.{leads_home, without_own_routes};
 
@@ -46,3 +52,17 @@ pub fn taking_credentials_keeps_the_rest()
     ensures hops { (realm : Option (List ℕ)) (m request : MessageText) → IsWithoutOwnCredentials realm m request
         → first_value hops_name request.headers ≡ first_value hops_name m.headers }
 {}
+
+/// Where the response to a request goes, by what was read of its top Via value as it came (RFC 3261 section 18.2.2): where the request
+/// says it once it has its source, and as it is prepared, since neither a Route value nor credentials are Via values.
+///
+/// A law over the definitions, with nothing to run.
+pub fn what_was_read_tells_the_reply()
+    ensures marked { (m with_source : MessageText) (source : Hop) (top : Option ReadTop) → IsTopOf m source top → marked m source ≡ Ok with_source
+        → reply_if_read top source ≡ reply_of (via_of (top_value with_source)) source }
+    ensures prepared { (setup : Setup) (m request : MessageText) (source : Hop) (top : Option ReadTop) → IsTopOf m source top → IsPrepared setup m source request
+        → reply_if_read top source ≡ reply_of (via_of (top_value request)) source }
+{
+    taking_own_routes_keeps_the_rest();
+    taking_credentials_keeps_the_rest();
+}

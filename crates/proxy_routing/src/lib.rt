@@ -15,10 +15,13 @@ mod own_routes;
 mod targets;
 mod unrouted;
 
-pub use admission::validate_request;
+pub use admission::{validate_read, validate_request};
 pub use checks::{asks_extension, has_via};
 pub use fault::RequestRejection;
-pub use law::{taking_credentials_keeps_the_rest, taking_own_routes_keeps_the_rest};
+pub use law::{
+    taking_credentials_keeps_the_rest, taking_own_routes_keeps_the_rest,
+    what_was_read_tells_the_reply,
+};
 pub use targets::{
     CandidateTarget, candidates, have_hops, hop_if_any, hop_to, is_responsible_for, targets_of,
 };

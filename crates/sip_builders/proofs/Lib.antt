@@ -2,8 +2,6 @@ pub mod CSeqAgain
 pub mod Common
 pub mod Forwarded
 pub mod HeaderValues
-pub mod MarkedValues
-pub mod MarkedVia
 pub mod RequestsGood
 pub mod TrimmedVias
 pub mod UpwardGood

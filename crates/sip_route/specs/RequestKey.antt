@@ -5,7 +5,7 @@ use Rattle.std.specs.Fmt.{decimal}
 use Rattle.std.specs.Str.{str_to_ascii_lowercase}
 use Rattle.sip_text.specs.Text.{MessageText}
 use Rattle.sip_via.specs.declared.own.ViaFault.{ViaFault}
-use Rattle.sip_via.specs.Sender.{sender_port}
+use Rattle.sip_via.specs.Sender.{SenderText, sender_port}
 use Rattle.sip_via.specs.TopVia.{top_value}
 use Rattle.sip_via.specs.ViaParts.{ViaText, branch_of, read_via}
 
@@ -28,6 +28,14 @@ key_if_read (Err fault) = None
 -- the key of a request: that of its top Via value, where this can be read and has a branch
 abbrev pub request_key : MessageText → Option (List ℕ)
 request_key m = key_if_read (read_via (top_value m))
+
+-- the same by what the value says of its sender
+abbrev pub sender_key_with : SenderText → Option (List ℕ) → Option (List ℕ)
+sender_key_with s None = None
+sender_key_with s (Some branch) = Some (key_text s.host s.port branch)
+
+abbrev pub sender_key : SenderText → Option (List ℕ)
+sender_key s = sender_key_with s s.branch
 
 -- both requests have a key, and it is the same
 abbrev pub HaveSameKey : MessageText → MessageText → Type 0

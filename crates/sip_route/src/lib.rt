@@ -20,7 +20,7 @@ pub use hops::{MaxForwards, max_forwards};
 pub use law::{keys_tell_senders, stripping_keeps_the_rest};
 pub use loop_test::is_loop;
 pub use loops::{loop_key, request_uri};
-pub use request_key::{append_request_key, has_same_key};
+pub use request_key::{append_request_key, append_sender_key, has_key, has_same_key};
 pub use route_values::{FirstRoute, first_route, routes_are_readable};
 pub use routes::{is_own, leads_to_proxy};
 pub use stripping::strip;

@@ -1,9 +1,10 @@
 //! The key of a request: what tells its server transaction from others.
 
-ghost use Rattle.std.specs.Prelude.{List, ℕ, ◌≡◌, ◌↔◌, ◌+◌, ◌++◌, ◌≤◌, ◌<◌, ◌&&◌, ◌==◌, IfNone, IfOk, IfSome, IsOk, IsTrue, OnErr, None, OnOk, Some, is_some, length, vec_capacity, vec_len};
+ghost use Rattle.std.specs.Prelude.{List, ℕ, ◌≡◌, ◌≢◌, ◌↔◌, ◌+◌, ◌++◌, ◌≤◌, ◌<◌, ◌&&◌, ◌==◌, IfNone, IfOk, IfSome, IsOk, IsTrue, OnErr, None, OnOk, Some, is_some, length, vec_capacity, vec_len};
 ghost use Rattle.std.specs.Str.{bytes_eq, str_to_ascii_lowercase};
 ghost use Rattle.sip_via.specs.ViaParts.{or_empty};
-ghost use Rattle.sip_route.specs.RequestKey.{HaveSameKey, key_text, request_key};
+ghost use Rattle.sip_route.specs.RequestKey.{HaveSameKey, key_text, request_key, sender_key};
+ghost use Rattle.sip_via.specs.Sender.{seen_sender};
 ghost use Rattle.sip_route.specs.inner.RequestKey.{IsSentBy};
 
 use itoa::Buffer;
@@ -65,6 +66,29 @@ fn key_of<A: Allocator>(message: &Message<A>) -> Option<Key<'_>>
     })
 }
 
+/// Appends the key of a request, by the sender that its top Via value names, where it has one, and says whether it has: as
+/// [`append_request_key`] does of the request, and the value is not read again. `out` grows once at most.
+///
+/// # Errors
+///
+/// Only where the growth of `out` is refused; `out` is then unchanged.
+pub fn append_sender_key<B: Allocator>(
+    out: &mut Vec<u8, B>,
+    sender: Sender<'_>,
+) -> Result<bool, AllocError>
+    ensures ok { IfOk result (λ _. out.new.items ≡ out.old.items ++ or_empty (sender_key (seen_sender sender.entry))) }
+    ensures said { IfOk result (λ said. said ≡ is_some (sender_key (seen_sender sender.entry))) }
+    ensures err { OnErr result (out.new.items ≡ out.old.items) }
+    ensures full { OnErr result
+        (vec_capacity out.old < vec_len out.old + length (or_empty (sender_key (seen_sender sender.entry)))) }
+{
+    let Some(branch) = sender.branch else {
+        return Ok(false);
+    };
+    append_key(out, sender.host, sender.port, branch)?;
+    Ok(true)
+}
+
 /// Appends the key of a request, where it has one, and says whether it has: what tells its server
 /// transaction from others (RFC 3261 section 17.2.3). That is the host of its top Via value in lower case,
 /// `:`, the port (5060 where none is named), a space and the branch. An ACK and a CANCEL have the key of the
@@ -115,4 +139,59 @@ pub fn has_same_key<A: Allocator, B: Allocator>(a: &Message<A>, b: &Message<B>) 
         return false;
     };
     is_same_key(&key, &other)
+}
+
+/// What stands behind a text that another one begins with.
+fn behind<'a>(text: &'a [u8], front: &[u8]) -> Option<&'a [u8]>
+    ensures found { IfSome result (λ rest. text.now ≡ front.now ++ rest.now) }
+    ensures none { IfNone result ((rest : List ℕ) → text.now ≢ front.now ++ rest) }
+{
+    text.strip_prefix(front)
+}
+
+/// What stands behind a text in lower case that another one begins with.
+fn behind_lowered<'a>(text: &'a [u8], front: &[u8]) -> Option<&'a [u8]>
+    ensures found { IfSome result (λ rest. text.now ≡ str_to_ascii_lowercase front.now ++ rest.now) }
+    ensures none { IfNone result ((rest : List ℕ) → text.now ≢ str_to_ascii_lowercase front.now ++ rest) }
+{
+    if text.len() < front.len() {
+        return None;
+    }
+    for i in 0..front.len() {
+        if text[i] != front[i].to_ascii_lowercase() {
+            return None;
+        }
+    }
+    Some(&text[front.len()..])
+}
+
+/// Whether a text is the key of these parts.
+fn is_key(text: &[u8], key: &Key<'_>) -> bool
+    ensures { IsTrue result ↔ (text.now ≡ key_text key.now.host.now key.now.port key.now.branch.now) }
+{
+    let mut buffer = Buffer::new();
+    let port = buffer.format(key.port).as_bytes();
+    let Some(rest) = behind_lowered(text, key.host) else {
+        return false;
+    };
+    let Some(rest) = behind(rest, b":") else {
+        return false;
+    };
+    let Some(rest) = behind(rest, port) else {
+        return false;
+    };
+    let Some(rest) = behind(rest, b" ") else {
+        return false;
+    };
+    rest == key.branch
+}
+
+/// Whether a request has this key, as `append_request_key` says it (RFC 3261 section 17.2.3). It takes no memory.
+pub fn has_key<A: Allocator>(message: &Message<A>, key: &[u8]) -> bool
+    ensures { IsTrue result ↔ (request_key message.now ≡ Some key.now) }
+{
+    match key_of(message) {
+        None => false,
+        Some(own) => is_key(key, &own),
+    }
 }

@@ -4,9 +4,12 @@ use crate::holds::holds;
 use crate::messages::{REQUEST, message_of};
 use crate::rows::holds_in_row;
 use md5::{Digest, Md5};
-use sip_route::{add_field, add_number, add_optional, append_request_key, has_same_key};
+use sip_route::{
+    add_field, add_number, add_optional, append_request_key, append_sender_key, has_key,
+    has_same_key,
+};
 use sip_text::Message;
-use sip_via::{Sender, sender_of, top_branch};
+use sip_via::{Sender, sender_of, top_branch, top_via};
 use std::alloc::Global;
 
 /// The request with this line in place of its Via line.
@@ -149,12 +152,23 @@ const KEYLESS: [&[u8]; 4] = [
     b"Via: , SIP/2.0/UDP host.example;branch=z9hG4bKa1",
 ];
 
+/// Whether this is the key of the sender that a value names.
+fn is_sender_key(alloc: Global, value: &[u8], key: &[u8]) -> bool {
+    let mut out = Vec::new(alloc);
+    match sender_of(value) {
+        Some(sender) => append_sender_key(&mut out, sender) == Ok(true) && out == key,
+        None => false,
+    }
+}
+
 /// Whether a request has this key.
 fn has_its_key(alloc: Global, request: &Message<Global>, key: &[u8]) -> bool {
     let mut out = Vec::new(alloc);
     out.push(b'>').is_ok()
         && append_request_key(&mut out, request) == Ok(true)
         && has(out.strip_prefix(b">"), key)
+        && has_key(request, key)
+        && is_sender_key(alloc, top_via(request), key)
 }
 
 /// Whether a request with that Via line has this key.

@@ -1,10 +1,13 @@
 pub mod Digits
 pub mod HexLaws
 pub mod Marked
+pub mod MarkedValues
+pub mod MarkedVia
 pub mod MarkedMessage
 pub mod OwnVia
 pub mod Places
 pub mod PlainVia
+pub mod ReadTop
 pub mod Replaced
 pub mod Tokens
 pub mod TrimmedValues

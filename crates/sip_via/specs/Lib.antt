@@ -3,6 +3,7 @@ pub mod BranchText
 pub mod Edits
 pub mod OwnPass
 pub mod OwnVia
+pub mod ReadTop
 pub mod Received
 pub mod SeenVia
 pub mod Sender

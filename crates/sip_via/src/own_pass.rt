@@ -19,7 +19,7 @@ use crate::cut::{ViaParts, are_parts, cut_value, is_trimmed, port_if_any};
 use crate::own::Own;
 use crate::own_value::is_own_address;
 use crate::params::first_param;
-use crate::received::DEFAULT_PORT;
+use crate::reply::DEFAULT_PORT;
 use crate::values::top_via;
 use sip_lex::begins_with_space;
 use sip_text::Message;

@@ -5,6 +5,7 @@ ghost use Rattle.std.specs.List.{list_all, list_any};
 ghost use Rattle.std.specs.Option.{option_copied};
 ghost use Rattle.sip_lex.specs.Quoted.{quoted_at};
 ghost use Rattle.sip_via.specs.ViaParts.{first_named, is_number, is_param, is_plain_value, is_rport, is_value, is_value_byte, is_value_if_any, is_whole, number_if_any, params_of};
+ghost use Rattle.sip_via.specs.inner.Replies.{gives_port};
 
 use sip_lex::{
     Shelter, cut_outside, cut_quoted, is_param_named, is_space, is_token, param_parts, param_value,
@@ -173,6 +174,32 @@ pub(crate) fn has_rport(text: Option<&[u8]>, port: u16) -> bool
     let mut params = Params::of(text);
     while let Some(param) = params.next() {
         if is_rport(param, port) {
+            return true;
+        }
+    }
+    false
+}
+
+/// Whether a parameter is `rport` with that number, or without a value.
+fn gives_port(param: &[u8], port: u16) -> bool
+    ensures { result ≡ gives_port port param.now }
+{
+    if !is_param_named(param, b"rport") {
+        return false;
+    }
+    match param_value(param) {
+        None => true,
+        Some(digits) => is_number(u64::from(port), read_number(digits, 65_535)),
+    }
+}
+
+/// Whether a parameter `rport` has that number, or no value.
+pub(crate) fn gives_any_port(text: Option<&[u8]>, port: u16) -> bool
+    ensures { result ≡ list_any (gives_port port) (params_of (option_copied text.entry)) }
+{
+    let mut params = Params::of(text);
+    while let Some(param) = params.next() {
+        if gives_port(param, port) {
             return true;
         }
     }

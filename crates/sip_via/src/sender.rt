@@ -10,7 +10,7 @@ ghost use Rattle.std.specs.Option.{option_copied};
 
 use crate::cut::{ViaParts, cut_value, cut_via, port_if_any};
 use crate::params::first_param;
-use crate::received::DEFAULT_PORT;
+use crate::reply::DEFAULT_PORT;
 use crate::values::top_via;
 use sip_text::Message;
 use std::alloc::Allocator;
@@ -27,7 +27,7 @@ pub struct Sender<'a> {
 }
 
 /// The sender that the parts of a Via value name.
-fn sender_in<'a>(cut: &ViaParts<'a>) -> Sender<'a>
+pub(crate) fn sender_in<'a>(cut: &ViaParts<'a>) -> Sender<'a>
     ensures { seen_sender result ≡ sender (via_of_parts (seen_parts cut.now)) }
 {
     Sender {

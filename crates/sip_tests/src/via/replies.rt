@@ -4,7 +4,7 @@ use crate::messages::{SOURCE, request_with_via};
 use crate::rows::holds_in_row;
 use sip_builders::reply_hop;
 use sip_uri::{Hop, Transport};
-use sip_via::{Via, reply_hop_of};
+use sip_via::{TopVia, Via, add_source, read_top, reply_hop_of};
 use std::alloc::Global;
 
 /// A Via line, how its request came, and where a response goes from there: the port and the transport.
@@ -125,4 +125,59 @@ fn goes_back(alloc: Global, value: &[u8], sent_by: u16) -> bool {
 fn replies_by_the_connection(rt: HostRuntime) {
     let well = goes_back(rt.alloc(), b"SIP/2.0/TCP h:5070;rport=40000", 5070);
     holds(&rt, well, "a response to a request over TCP");
+}
+
+/// Whether what is read of a request that came so tells where the response goes as the request says it once it is marked.
+fn tells_the_reply(alloc: Global, via: &[u8], source: Hop) -> bool {
+    let Some(request) = request_with_via(alloc, via) else {
+        return false;
+    };
+    let Ok(top) = TopVia::of(&alloc, &request, source) else {
+        return false;
+    };
+    match add_source(request, source, &top) {
+        Ok(marked) => reply_hop_of(&marked, source) == top.reply_hop(source),
+        Err(_) => false,
+    }
+}
+
+#[test]
+fn what_was_read_tells_the_reply(rt: HostRuntime) {
+    let alloc = rt.alloc();
+    for (row, (via, came, _, _)) in REPLIES.iter().enumerate() {
+        holds_in_row(
+            &rt,
+            tells_the_reply(alloc, via, at_source(SOURCE.port, *came)),
+            "where a response goes, by the value as it came",
+            row,
+        );
+    }
+}
+
+/// Whether the top Via value of the request with this line is read with that host, has the cookie, and sends a response over UDP there.
+fn reads_top(alloc: Global, via: &[u8], host: &[u8], port: u16) -> bool {
+    let Some(request) = request_with_via(alloc, via) else {
+        return false;
+    };
+    let source = at_source(SOURCE.port, Transport::Udp);
+    match read_top(&alloc, &request, source) {
+        Ok((top, Some(sender))) => {
+            top.has_cookie()
+                && top.reply_hop(source) == at_source(port, Transport::Udp)
+                && sender.host == host
+        }
+        _ => false,
+    }
+}
+
+#[test]
+fn a_top_value_is_read_once(rt: HostRuntime) {
+    let alloc = rt.alloc();
+    let asks = b"Via: SIP/2.0/UDP h:5070;rport;branch=z9hG4bKa, SIP/2.0/UDP i";
+    let names = b"Via: SIP/2.0/UDP h:5070;branch=z9hG4bKa";
+    holds(
+        &rt,
+        reads_top(alloc, asks, b"h", SOURCE.port) && reads_top(alloc, names, b"h", 5070),
+        "its host, its branch and where the response goes",
+    );
 }

@@ -5,7 +5,7 @@ use Rattle.sip_lex.specs.declared.sheltered.Shelter.TheVariants.{Quotes}
 use Rattle.sip_lex.specs.declared.sheltered.ShelterState.TheVariants.{Plain}
 use Rattle.sip_lex.specs.Bytes.{trim, trim_end}
 use Rattle.sip_lex.specs.Sheltered.{cut_outside}
-use Rattle.sip_via.specs.declared.received.CutLine.{CutLine}
+use Rattle.sip_via.specs.declared.first_line.CutLine.{CutLine}
 use Rattle.sip_via.specs.inner.SeenParts.{seen_parts}
 use Rattle.sip_via.specs.ViaParts.{is_via, parts_of}
 

@@ -26,4 +26,5 @@ returns-clause-none g c =
     (no_transaction call m c.in_ok-n.n
     (at_home call m c.opened.result.now c.branch-call.result c.args.branch (Some c.in_ok-n.n) c.opened.ensures c.branch-call.ensures c.are_branches.ensures
     c.requires.named c.in_ok-n.ensures.only)
-    (second ∙ sym c.is_for_client.ensures ∙ c.if-is_for_client.false) (sym c.is_for_cancel.ensures ∙ c.if-is_for_cancel.false))
+    (second ∙ sym (c.is_for_client.ensures (message_cseq m.headers) c.cseq_method-to.ensures) ∙ c.if-is_for_client.false)
+    (sym (c.is_for_cancel.ensures (message_cseq m.headers) c.cseq_method-to.ensures) ∙ c.if-is_for_cancel.false))

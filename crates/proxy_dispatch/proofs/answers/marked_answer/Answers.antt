@@ -14,25 +14,25 @@ answer_to-requires g c =
     subst (λ (ls : List HeaderText). list_all is_header ls ≡ true) (sym (ap view_lines c.deref.ensures.value ∙ c.in_ok-lines.ensures.exact)) c.in_ok-lines.ensures.good
 
 pub returns-clause-marked : goal.returns-clause-marked
-returns-clause-marked g c = λ m is.
+returns-clause-marked g c = λ m source is hop.
     let status = c.args.answer.now.status in
     let lines = c.args.answer.now.lines in
     ap seen_sent c.sends.ensures.sends
     ∙ ap Some
     (c.in_ok-datagram.ensures
-    ∙ ap (λ (s : OwnStatus). answer_to c.args.request.now s (view_lines c.deref.result.now) c.reply_hop_of-to.result) c.status.ensures
-    ∙ ap (λ (ls : List HeaderText). answer_to c.args.request.now status ls c.reply_hop_of-to.result) (ap view_lines c.deref.ensures.value ∙ c.in_ok-lines.ensures.exact)
-    ∙ ap (answer_to c.args.request.now status lines) c.reply_hop_of-to.ensures
-    ∙ with_source_answer c.stripping_keeps_answers.ensures c.stripping_keeps_the_rest.ensures.others c.args.source status lines m c.args.request.now is)
+    ∙ ap (λ (s : OwnStatus). answer_to c.args.request.now s (view_lines c.deref.result.now) c.args.to) c.status.ensures
+    ∙ ap (λ (ls : List HeaderText). answer_to c.args.request.now status ls c.args.to) (ap view_lines c.deref.ensures.value ∙ c.in_ok-lines.ensures.exact)
+    ∙ ap (answer_to c.args.request.now status lines) hop
+    ∙ with_source_answer c.stripping_keeps_answers.ensures c.stripping_keeps_the_rest.ensures.others source status lines m c.args.request.now is)
 
 pub returns-clause-prepared : goal.returns-clause-prepared
-returns-clause-prepared g c = λ setup m is.
+returns-clause-prepared g c = λ setup m source is hop.
     let status = c.args.answer.now.status in
     let lines = c.args.answer.now.lines in
     ap seen_sent c.sends.ensures.sends
     ∙ ap Some
     (c.in_ok-datagram.ensures
-    ∙ ap (λ (s : OwnStatus). answer_to c.args.request.now s (view_lines c.deref.result.now) c.reply_hop_of-to.result) c.status.ensures
-    ∙ ap (λ (ls : List HeaderText). answer_to c.args.request.now status ls c.reply_hop_of-to.result) (ap view_lines c.deref.ensures.value ∙ c.in_ok-lines.ensures.exact)
-    ∙ ap (answer_to c.args.request.now status lines) c.reply_hop_of-to.ensures
-    ∙ prepared_answer c.stripping_keeps_answers.ensures c.stripping_keeps_the_rest.ensures.others c.args.source status lines setup m c.args.request.now is)
+    ∙ ap (λ (s : OwnStatus). answer_to c.args.request.now s (view_lines c.deref.result.now) c.args.to) c.status.ensures
+    ∙ ap (λ (ls : List HeaderText). answer_to c.args.request.now status ls c.args.to) (ap view_lines c.deref.ensures.value ∙ c.in_ok-lines.ensures.exact)
+    ∙ ap (answer_to c.args.request.now status lines) hop
+    ∙ prepared_answer c.stripping_keeps_answers.ensures c.stripping_keeps_the_rest.ensures.others source status lines setup m c.args.request.now is)

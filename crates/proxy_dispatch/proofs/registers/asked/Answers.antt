@@ -20,3 +20,8 @@ returns-in-BadVia g c =
     (λ outcome handled sent. unmarked_at serving c.args.setup.now r.message c.in-Err.unmarked.message r.source r.now outcome.handled (seen_sent outcome.datagram) (marked r.message r.source)
     (sym c.in-Err.ensures.refused ∙ c.in-BadVia.is) c.in-Err.ensures.err handled sent)
     c.answered.ensures.handled c.answered.ensures.sent
+
+pub of_registrar-requires : goal.of_registrar-requires
+of_registrar-requires g c =
+    let r = c.args.received in
+    c.reply_hop-to.ensures ∙ c.what_was_read_tells_the_reply.ensures.marked r.message c.in-Ok.request r.source r.top c.requires c.in-Ok.ensures.ok

@@ -9,7 +9,7 @@ returns-in-Some g c = λ m is.
     by_both c.marked_answer.result _ _ _
     (λ outcome handled sent. answered_by serving c.args.setup.now m c.args.request.now c.args.source c.args.now outcome.handled (seen_sent outcome.datagram) c.in_ok-answer.field-0 (Some c.in-Some.answer)
     c.in_ok-answer.ensures c.in-Some.is (refl, (handled, sent)))
-    c.marked_answer.ensures.handled (c.marked_answer.ensures.marked m is)
+    c.marked_answer.ensures.handled (c.marked_answer.ensures.marked m c.args.source is c.requires)
 
 pub returns-in-None : goal.returns-in-None
 returns-in-None g c = λ m is.

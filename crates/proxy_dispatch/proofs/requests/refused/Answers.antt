@@ -1,4 +1,7 @@
-use Rattle.proxy_dispatch.proofs.Common.{[], inl, inr, refl, subst, sym, MessageText, seen_sent}
+use Rattle.proxy_dispatch.proofs.Common.{◌∙◌, [], inl, inr, refl, subst, sym, MessageText, seen_sent}
+use Rattle.sip_via.specs.Received.{reply_of}
+use Rattle.sip_via.specs.TopVia.{top_value}
+use Rattle.sip_via.specs.ViaParts.{via_of}
 use Rattle.proxy_routing.specs.Admission.{IsPrepared}
 use Rattle.fork_call.specs.Prepared.{IsPreparedAs}
 use Rattle.proxy_dispatch.specs.Becomes.{IsStopped}
@@ -13,7 +16,8 @@ returns-in-Ok g c =
     by_both c.marked_answer.result _ _ _
     (λ outcome handled sent. inr (refl, (c.in-Ok.prepared, is), (handled, sent)))
     c.marked_answer.ensures.handled
-    (c.marked_answer.ensures.prepared c.args.setup.now o.request (subst P (sym c.request.ensures) is.admitted.prepared))
+    (c.marked_answer.ensures.prepared c.args.setup.now o.request o.source (subst P (sym c.request.ensures) is.admitted.prepared)
+    (c.caller.ensures ∙ (λ k. reply_of (via_of (top_value (sym c.request.ensures k))) (is.from k))))
 
 pub returns-in-Err : goal.returns-in-Err
 returns-in-Err g c =

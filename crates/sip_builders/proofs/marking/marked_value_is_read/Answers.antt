@@ -1,4 +1,4 @@
-use Rattle.sip_builders.proofs.MarkedValues.{says-the-same}
+use Rattle.sip_via.proofs.laws.MarkedValues.{says-the-same}
 use Rattle.sip_builders.proofs.marking.marked_value_is_read.Goals as goal
 
 pub returns : goal.returns

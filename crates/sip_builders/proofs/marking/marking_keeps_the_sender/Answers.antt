@@ -1,4 +1,4 @@
-use Rattle.sip_builders.proofs.MarkedValues.{says-the-same}
+use Rattle.sip_via.proofs.laws.MarkedValues.{says-the-same}
 use Rattle.sip_builders.proofs.marking.marking_keeps_the_sender.Goals as goal
 
 pub returns-clause-host : goal.returns-clause-host

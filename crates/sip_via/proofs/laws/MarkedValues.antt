@@ -1,14 +1,19 @@
 -- What marking does to the Via values of a message.
-use Rattle.sip_builders.proofs.Common.{◌≡◌, ℕ, true, List, [], ◌∷◌, ◌++◌, length, map, drop, Some, Result, Ok, refl, sym, ap, subst, ◌∙◌, append_assoc, arith, AllByRecursion, flat_map, drop_at, Quotes, Plain, trim, trim_end, trim_start, behind}
-use Rattle.sip_builders.proofs.Common.{pieces_outside_behind, pieces_outside-cut, cut_outside_again, trim_end-whole, first_of, HeaderText, MessageText, Hop, ViaFault, replaced, IsSource, marked_line, marked_value, values_in, IsSpace, IsVia, IsViaParam, ViaText}
-use Rattle.sip_builders.proofs.Common.{branch_of, is_via, or_empty, read_via, via_of, common_steps}
+use Rattle.sip_via.proofs.Common.{◌≡◌, ℕ, true, List, [], ◌∷◌, ◌++◌, length, map, drop, Some, Result, Ok, refl, sym, ap, subst, ◌∙◌, append_assoc, arith, AllByRecursion, flat_map, drop_at, Quotes, Plain, trim, trim_end, trim_start, behind, pieces_outside_behind}
+use Rattle.sip_via.proofs.Common.{pieces_outside-cut, cut_outside_again, trim_end-whole, first_of, HeaderText, MessageText, Hop, ViaFault, replaced, IsSource, marked_line, marked_value, values_in, IsSpace, IsVia, IsViaParam, ViaText, is_via, or_empty, read_via, via_of, common_steps}
+use Rattle.sip_via.specs.ViaParts.{branch_of, is_rport}
+use Rattle.std.specs.Prelude.{◌≤◌}
+use Rattle.std.specs.List.{list_any}
 use Rattle.sip_text.specs.Name.{values_of}
-use Rattle.sip_via.specs.Received.{marked}
+use Rattle.sip_uri.specs.declared.hop.Transport.{Transport}
+use Rattle.sip_uri.specs.declared.hop.Transport.TheVariants.{Udp, Tcp, Back}
+use Rattle.sip_via.specs.Received.{marked, reply_of, reply_over}
+use Rattle.sip_via.specs.inner.Replies.{gives_port, reply_unmarked, reply_unmarked_over}
 use Rattle.sip_via.specs.TopVia.{first_or_empty, top_value, via_values}
 use Rattle.sip_via.proofs.laws.Marked.{BeginsPlain, trim_end-back, via-begins}
 use Rattle.sip_via.proofs.laws.MarkedMessage.{Cut, cut_line, top-is, values-line, was-marked}
 use Rattle.sip_via.proofs.laws.ViaFronts.{IsFront, core, core-unsplit, spelled, spelling-split}
-use Rattle.sip_builders.proofs.MarkedVia.{end-trims, marked-via}
+use Rattle.sip_via.proofs.laws.MarkedVia.{end-trims, marked-via}
 use Rattle.sip_via.proofs.laws.ViaOnly.{IsBare, IsUnsplit, Starts, all_joined, bare_trim, unsplit_all, unsplit_append, unsplit_byte, unsplit_empty, unsplit_join, comma, neither, on_some, param_unsplit, space_unsplit, via_again}
 
 -- ---- a Via value holds no comma outside quotes
@@ -96,3 +101,20 @@ says-the-same m n source is e =
     let top : top_value n ≡ marked_value source (top_value m) = ap first_or_empty (values-of-marked m n source is e) in
     let read = read-is (marked_value source (top_value m)) v.new (via_again (marked_value source (top_value m)) v.new v.is) in
     grind (arith, common_steps)
+
+-- ---- where the response goes
+
+reply-over : (source : Hop) (via new : ViaText) (transport : Transport) → new.port ≡ via.port → list_any (is_rport source.port) new.params ≡ list_any (gives_port source.port) via.params → reply_unmarked_over transport via source ≡ reply_over transport new source
+reply-over source via new Udp port says = grind arith
+reply-over source via new Tcp port says = grind arith
+reply-over source via new (Back by) port says = grind arith
+
+-- the top value as it came tells it as the marked one does
+pub reply-kept : (m n : MessageText) (source : Hop) → IsSource source → source.port ≤ 65535 → marked m source ≡ Ok n → reply_unmarked (via_of (top_value m)) source ≡ reply_of (via_of (top_value n)) source
+reply-kept m n source is small e =
+    let w = was-marked m n source e in
+    let v = marked-via source (top_value m) is w.reads in
+    let top : top_value n ≡ marked_value source (top_value m) = ap first_or_empty (values-of-marked m n source is e) in
+    let read = read-is (marked_value source (top_value m)) v.new (via_again (marked_value source (top_value m)) v.new v.is) in
+    let new : via_of (top_value n) ≡ v.new = ap via_of top ∙ read.1 in
+    reply-over source (via_of (top_value m)) (via_of (top_value n)) source.transport (ap (λ (x : ViaText). x.port) new ∙ v.port) (ap (λ (x : ViaText). list_any (is_rport source.port) x.params) new ∙ v.rport small)

@@ -1,10 +1,17 @@
--- A Via value that was marked is one, and names the same host, port and branch.
-use Rattle.sip_builders.proofs.Common.{◌≡◌, ◌≢◌, ℕ, ◌<◌, ◌^◌, true, false, cond, List, [], ◌∷◌, ◌++◌, length, drop, Option, Some, None, refl, sym, ap, subst, ◌∙◌, append_assoc, arith, inl, inr, IfSome, codes, is_none, slice_index, is_ascii_digit, decimal}
-use Rattle.sip_builders.proofs.Common.{AllByRecursion, flat_map, list_all, bytes_eq, str_to_ascii_lowercase, and_parts, cases_Bool, cond-false, cond-true, false≢true, decimal_nonempty, digits_decimal, append-nil, drop_at, bytes_eq-Decides, Quotes, Plain}
-use Rattle.sip_builders.proofs.Common.{is_token, trim, trim_end, is, cut_outside, cut_again, cut_outside_again, joined, joined-behind, trim_end-reverse, trim_start-none, trim_start-spaces, own, Hop, IsHost, IsPort, IsAddress, address_text, dotted, IsSource}
-use Rattle.sip_builders.proofs.Common.{asks_port, filled, gets_received, marked_param, marked_parts, marked_value, received_text, AreParamGaps, AreViaGaps, IsSpace, IsValue, IsVia, IsViaParam, ParamGaps, ViaGaps, param_spelling, spaced, spelling, ViaText}
-use Rattle.sip_builders.proofs.Common.{first_named, are_parts, is_named, is_value_byte, is_via, name_of, parts_of, via_of, common_steps}
-use Rattle.sip_via.specs.ViaParts.{is_trimmed, value_of}
+-- A Via value that was marked is one, and names the same host, port and branch; `rport` names the port of the source where it did so
+-- before, or was there without a value.
+use Rattle.sip_via.proofs.Common.{◌≡◌, ◌≢◌, ℕ, ◌<◌, ◌^◌, true, false, cond, List, [], ◌∷◌, ◌++◌, length, drop, Option, Some, None, refl, sym, ap, subst, ◌∙◌, append_assoc, arith, inl, inr, IfSome, codes, is_none, is_ascii_digit}
+use Rattle.sip_via.proofs.Common.{decimal, AllByRecursion, flat_map, list_all, bytes_eq, str_to_ascii_lowercase, and_parts, cases_Bool, cond-false, cond-true, false≢true, digits_decimal, append-nil, drop_at, bytes_eq-Decides, Quotes, Plain, is_token, trim, trim_end, is, cut_outside, cut_again, cut_outside_again, joined, joined-behind, trim_end-reverse, trim_start-none, trim_start-spaces, own}
+use Rattle.sip_via.proofs.Common.{Hop, IsHost, IsPort, IsAddress, address_text, dotted, IsSource, asks_port, filled, gets_received, marked_param, marked_parts, marked_value, received_text, AreParamGaps, AreViaGaps, IsSpace, IsValue, IsVia, IsViaParam, ParamGaps, ViaGaps, param_spelling, spaced, spelling, ViaText, first_named, are_parts, is_named, is_value_byte}
+use Rattle.sip_via.proofs.Common.{is_via, name_of, parts_of, via_of, common_steps}
+use Rattle.std.proofs.Common.{slice_index}
+use Rattle.std.proofs.lemmas.Fmt.{decimal_nonempty}
+use Rattle.std.specs.Prelude.{Bool, ◌≤◌, ◌&&◌, ◌||◌}
+use Rattle.std.specs.List.{list_any}
+use Rattle.sip_lex.specs.Number.{number_within, plain_number_within}
+use Rattle.sip_lex.proofs.laws.Numbers.{number_read}
+use Rattle.sip_via.specs.ViaParts.{is_number, is_rport, is_trimmed, number_if_any, value_of}
+use Rattle.sip_via.specs.inner.Replies.{gives_port}
 use Rattle.sip_via.proofs.laws.Marked.{sip-begins, trim_end-back}
 use Rattle.sip_via.proofs.laws.ViaFound.{via_found}
 use Rattle.sip_via.proofs.laws.ViaOnly.{IsBare, Starts, all_joined, all_reverse, bare_trim, unsplit_all, host_bare, neither, on_some, param_front, param_joins, params_again, port_bare, semicolon, space_unsplit, tail_of}
@@ -86,6 +93,10 @@ record AreTrimmed (params kept : List (List ℕ)) : Type 0 where
   good : AllByRecursion IsViaParam kept
   ends : IsEnd (spelled kept)
   same : (name : List ℕ) → first_named name kept ≡ first_named name params
+  rport : (port : ℕ) → list_any (is_rport port) kept ≡ list_any (is_rport port) params
+
+abbrev says_rport : ℕ → List ℕ → Option (List ℕ) → Bool
+says_rport port name value = bytes_eq (str_to_ascii_lowercase name) (str_to_ascii_lowercase (codes "rport")) && is_number port (number_if_any value)
 
 abbrev step_of : List ℕ → List ℕ → Option (List ℕ) → Option (List ℕ) → Option (List ℕ)
 step_of name says value later = cond (bytes_eq (str_to_ascii_lowercase says) (str_to_ascii_lowercase name)) value later
@@ -102,6 +113,7 @@ all-trimmed param [] all =
         good = (t.1.good, tt);
         ends = subst IsEnd (ap (λ (x : List ℕ). 59 ∷ x) (sym (append-nil t.0))) (end-behind (59 ∷ []) t.0 t.1.ends);
         same = λ name. ap (λ (n : List ℕ). step_of name n (value_of t.0) None) (t.1.named ∙ sym says.0) ∙ ap (λ (v : Option (List ℕ)). step_of name (name_of param) v None) (t.1.valued ∙ sym says.1);
+        rport = λ port. ap (λ (n : List ℕ). says_rport port n (value_of t.0) || false) (t.1.named ∙ sym says.0) ∙ ap (λ (v : Option (List ℕ)). says_rport port (name_of param) v || false) (t.1.valued ∙ sym says.1);
       },
     )
 all-trimmed param (next ∷ params) all =
@@ -114,6 +126,7 @@ all-trimmed param (next ∷ params) all =
         good = (all.0, r.1.good);
         ends = end-behind (59 ∷ param) (spelled r.0) r.1.ends;
         same = λ name. ap (λ (v : Option (List ℕ)). cond (is_named name param) (value_of param) v) (r.1.same name);
+        rport = λ port. ap (λ (later : Bool). is_rport port param || later) (r.1.rport port);
       },
     )
 
@@ -180,7 +193,7 @@ received-good address valued = record {
   valued = valued;
 }
 
-filled-by : (port : ℕ) (param : List ℕ) (g : ParamGaps) (name : List ℕ) (value : Option (List ℕ)) → port < 2 ^ 64 → param ≡ param_spelling g name value → AreParamGaps g → is_token name ≡ true → is_none value ≡ true → (good : IsViaParam (filled port param)) × (good.name ≡ name)
+filled-by : (port : ℕ) (param : List ℕ) (g : ParamGaps) (name : List ℕ) (value : Option (List ℕ)) → port < 2 ^ 64 → param ≡ param_spelling g name value → AreParamGaps g → is_token name ≡ true → is_none value ≡ true → (good : IsViaParam (filled port param)) × (good.name ≡ name) × (good.value ≡ Some (decimal port))
 filled-by port param g name (Some value) small e spaces token none = absurd (false≢true none)
 filled-by port param g name None small e spaces token none =
     let kept = g.before ++ name in
@@ -200,9 +213,9 @@ filled-by port param g name None small e spaces token none =
       token = token;
       valued = decimal-value port small;
     } in
-    (good, refl)
+    (good, (refl, refl))
 
-filled-good : (port : ℕ) (param : List ℕ) → port < 2 ^ 64 → (h : IsViaParam param) → asks_port param ≡ true → (good : IsViaParam (filled port param)) × (good.name ≡ h.name)
+filled-good : (port : ℕ) (param : List ℕ) → port < 2 ^ 64 → (h : IsViaParam param) → asks_port param ≡ true → (good : IsViaParam (filled port param)) × (good.name ≡ h.name) × (good.value ≡ Some (decimal port))
 filled-good port param small h asks =
     let none = (and_parts (is_named (codes "rport") param) (is_none (value_of param)) asks).1 in
     filled-by port param h.gaps h.name h.value small h.spelled h.spaces h.token (ap is_none (sym (param-says param h).1) ∙ none)
@@ -252,7 +265,7 @@ branch-step port param rest params small h e =
                 let is_port = (and_parts (is_named (codes "rport") param) (is_none (value_of param)) asks).0 in
                 let other : is_named branch param ≡ false = other-name branch (codes "rport") (name_of param) refl is_port in
                 let good = filled-good port param small h asks in
-                let names : name_of (filled port param) ≡ name_of param = (param-says (filled port param) good.0).0 ∙ good.1 ∙ sym (param-says param h).0 in
+                let names : name_of (filled port param) ≡ name_of param = (param-says (filled port param) good.0).0 ∙ good.1.0 ∙ sym (param-says param h).0 in
                 let so : is_named branch (filled port param) ≡ false = ap (λ (n : List ℕ). bytes_eq (lowered n) (lowered branch)) names ∙ other in
                 ap (λ (x : List ℕ). first_named branch (x ∷ rest)) (cond-true _ _ _ asks) ∙ cond-false _ _ _ so ∙ e ∙ sym (cond-false _ _ _ other)
             | inr not_so ↦ ap (λ (x : List ℕ). first_named branch (x ∷ rest)) (cond-false _ _ _ not_so) ∙ ap (λ (v : Option (List ℕ)). cond (is_named branch param) (value_of param) v) e
@@ -265,6 +278,44 @@ branch-all port (p ∷ ps) rest small h e = grind (arith, common_steps, branch-s
 
 new-branch : (source : Hop) (host : List ℕ) (params : List (List ℕ)) → IsSource source → AllByRecursion IsViaParam params → first_named branch (new_params source host params) ≡ first_named branch params
 new-branch source host params is h = grind (arith, branch-all)
+
+-- ---- and name the port of the source
+
+plain-read : (limit : ℕ) (ds : List ℕ) (n : ℕ) → plain_number_within limit ds ≡ Some n → number_within limit ds ≡ Some n
+plain-read limit ds n e = grind arith
+
+port-number : (port : ℕ) (value : Option (List ℕ)) → port ≤ 65535 → value ≡ Some (decimal port) → is_number port (number_if_any value) ≡ true
+port-number port value small e =
+    let read : number_within 65535 (decimal port) ≡ Some port = plain-read 65535 (decimal port) port (number_read 65535 port small (omega (arith, small))) in
+    grind (arith, common_steps)
+
+rport-step : (port : ℕ) (param : List ℕ) (rest params : List (List ℕ)) → port ≤ 65535 → IsViaParam param → list_any (is_rport port) rest ≡ list_any (gives_port port) params → list_any (is_rport port) (kept_params port param ++ rest) ≡ list_any (gives_port port) (param ∷ params)
+rport-step port param rest params small h e =
+    elim (cases_Bool (is_named (codes "received") param)) [
+      | inl dropped ↦
+          let other : is_named (codes "rport") param ≡ false = other-name (codes "rport") (codes "received") (name_of param) refl dropped in
+          grind (arith, common_steps)
+      | inr stays ↦
+          elim (cases_Bool (asks_port param)) [
+            | inl asks ↦
+                let is_port = (and_parts (is_named (codes "rport") param) (is_none (value_of param)) asks).0 in
+                let good = filled-good port param (omega (arith, small)) h asks in
+                let says = param-says (filled port param) good.0 in
+                let names : name_of (filled port param) ≡ name_of param = says.0 ∙ good.1.0 ∙ sym (param-says param h).0 in
+                let valued : value_of (filled port param) ≡ Some (decimal port) = says.1 ∙ good.1.1 in
+                let number = port-number port (value_of (filled port param)) small valued in
+                let named : is_named (codes "rport") (filled port param) ≡ true = ap (λ (n : List ℕ). bytes_eq (lowered n) (lowered (codes "rport"))) names ∙ is_port in
+                grind (arith, common_steps)
+            | inr not_so ↦ grind (arith, common_steps)
+          ]
+    ]
+
+rport-all : (port : ℕ) (params rest : List (List ℕ)) → port ≤ 65535 → AllByRecursion IsViaParam params → list_any (is_rport port) rest ≡ false → list_any (is_rport port) (flat_map (kept_params port) params ++ rest) ≡ list_any (gives_port port) params
+rport-all port [] rest small h e = e
+rport-all port (p ∷ ps) rest small h e = grind (arith, common_steps, rport-step, rport-all port ps rest small h.1 e)
+
+new-rport : (source : Hop) (host : List ℕ) (params : List (List ℕ)) → source.port ≤ 65535 → AllByRecursion IsViaParam params → list_any (is_rport source.port) (new_params source host params) ≡ list_any (gives_port source.port) params
+new-rport source host params small h = grind (arith, rport-all)
 
 -- ---- what stands before the parameters
 
@@ -307,6 +358,7 @@ record IsFinished (g : ViaGaps) (via : ViaText) (params : List (List ℕ)) : Typ
   trims : trim_end ((core g via ++ g.before_params) ++ spelled params) ≡ text
   is : IsVia text (with_params via kept)
   same : (name : List ℕ) → first_named name kept ≡ first_named name params
+  rport : (port : ℕ) → list_any (is_rport port) kept ≡ list_any (is_rport port) params
 
 abbrev without_gap : ViaGaps → ViaGaps
 without_gap g = record { name = g.name; before_version = g.before_version; before_transport = g.before_transport; before_host = g.before_host; before_port = g.before_port; before_params = [] }
@@ -324,6 +376,7 @@ finished g via [] f good =
       trims = ap trim_end (append-nil (core g via ++ g.before_params)) ∙ end-trims (core g via) g.before_params end f.spaces.before_params;
       is = made (without_gap g) via [] (core g via) text (front-without g via f) tt end;
       same = λ name. refl;
+      rport = λ port. refl;
     }
 finished g via (p ∷ ps) f good =
     let front = core g via ++ g.before_params in
@@ -335,6 +388,7 @@ finished g via (p ∷ ps) f good =
       trims = ap (λ (x : List ℕ). trim_end (front ++ x)) r.1.whole ∙ ap trim_end (sym (append_assoc front (spelled r.0) r.1.gap)) ∙ end-trims (front ++ spelled r.0) r.1.gap end r.1.space;
       is = made g via r.0 (front ++ spelled r.0) (append_assoc (core g via) g.before_params (spelled r.0) ∙ sym (spelling-split g via r.0)) f r.1.good end;
       same = r.1.same;
+      rport = r.1.rport;
     }
 
 -- ---- the marked value
@@ -345,6 +399,7 @@ pub record IsMarkedVia (source : Hop) (value : List ℕ) : Type 0 where
   pub host : new.host ≡ (via_of value).host
   pub port : new.port ≡ (via_of value).port
   pub same_branch : first_named (codes "branch") new.params ≡ first_named (codes "branch") (via_of value).params
+  pub rport : source.port ≤ 65535 → list_any (is_rport source.port) new.params ≡ list_any (gives_port source.port) (via_of value).params
 
 pub marked-via : (source : Hop) (value : List ℕ) → IsSource source → is_via value ≡ true → IsMarkedVia source value
 marked-via source value is h =
@@ -370,4 +425,5 @@ marked-via source value is h =
       host = refl;
       port = refl;
       same_branch = end.same branch ∙ new-branch source via.host via.params is found.params;
+      rport = λ small. end.rport source.port ∙ new-rport source via.host via.params small found.params;
     }

@@ -1,5 +1,5 @@
 use Rattle.fork_call.proofs.OpenedCalls.{all_open, refuses_so, stopped_refused}
-use Rattle.fork_call.proofs.pending_call.PendingCall.new.Goals as goal
+use Rattle.fork_call.proofs.pending_call.PendingCall.new_read.Goals as goal
 
 pub returns-in-Ok-clause-opened : goal.returns-in-Ok-clause-opened
 returns-in-Ok-clause-opened g c =

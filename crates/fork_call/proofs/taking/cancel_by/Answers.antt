@@ -1,6 +1,6 @@
 use Rattle.fork_call.proofs.Common.{◌∙◌, sym}
 use Rattle.fork_call.proofs.Marking.{keyed_is_marked}
-use Rattle.fork_call.proofs.taking.take_cancel.Goals as goal
+use Rattle.fork_call.proofs.taking.cancel_by.Goals as goal
 
 pub unreachable-requires : goal.unreachable-requires
 unreachable-requires g c =

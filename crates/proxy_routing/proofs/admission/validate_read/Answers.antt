@@ -1,7 +1,7 @@
 use Rattle.proxy_routing.proofs.Common.{Own, refl, subst, sym}
 use Rattle.std.proofs.lemmas.Bool.{false≢true}
 use Rattle.sip_route.specs.LoopTest.{IsLoop}
-use Rattle.proxy_routing.proofs.admission.validate_request.Goals as goal
+use Rattle.proxy_routing.proofs.admission.validate_read.Goals as goal
 
 pub returns-then-is_loop-clause-refused : goal.returns-then-is_loop-clause-refused
 returns-then-is_loop-clause-refused g c =
