@@ -5,6 +5,7 @@ pub mod Unrouted
 pub mod Commas
 pub mod HopsPass
 pub mod KeyLaws
+pub mod KeyRead
 pub mod KeyTexts
 pub mod RouteLaws
 pub mod RoutePieces

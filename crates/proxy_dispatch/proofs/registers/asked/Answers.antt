@@ -1,4 +1,5 @@
-use Rattle.proxy_dispatch.proofs.Common.{◌∙◌, Err, Ok, refl, sym, IfOk-weaker, seen_sent}
+use Rattle.proxy_dispatch.proofs.Common.{◌∙◌, Err, MessageText, Ok, refl, subst, sym, IfOk-weaker, seen_sent}
+use Rattle.sip_via.specs.ReadTop.{IsTopOf}
 use Rattle.sip_via.specs.Received.{marked}
 use Rattle.proxy_dispatch.proofs.Becoming.{marked_at, unmarked_at}
 use Rattle.proxy_dispatch.proofs.Outcomes.{by_both}
@@ -25,3 +26,9 @@ pub of_registrar-requires : goal.of_registrar-requires
 of_registrar-requires g c =
     let r = c.args.received in
     c.reply_hop-to.ensures ∙ c.what_was_read_tells_the_reply.ensures.marked r.message c.in-Ok.request r.source r.top c.requires c.in-Ok.ensures.ok
+
+pub answered-requires : goal.answered-requires
+answered-requires g c =
+    let r = c.args.received in
+    let P : MessageText → Type 0 = λ m. IsTopOf m r.source r.top in
+    subst P (sym c.in-Err.ensures.err) c.requires

@@ -13,7 +13,7 @@ returns-then-is_of_another_scheme-clause-refused g c = (
     sym c.if-not-is_formed.ensures,
     other_scheme c.args.message c.request_uri.result.now c.uri_fault-fault.result c.uri_fault-fault.ensures.exact c.request_uri.ensures (c.if-is_of_another_scheme.ensures.0 refl),
   ),
-  c.in_ok-marked.ensures,
+  c.in_ok-marked.ensures.marked,
 )
 
 pub returns-clause-well : goal.returns-clause-well
