@@ -59,6 +59,7 @@ fn with_via_line<A: Allocator>(
 /// # Errors
 ///
 /// Those of [`add_received`].
+#[tactic(auto, using(crate::proofs::laws::ReadTop::line_marks, crate::proofs::laws::ReadTop::none_marks))]
 pub fn add_source<A: Allocator>(
     message: Message<A>,
     source: Hop,

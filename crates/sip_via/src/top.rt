@@ -102,6 +102,7 @@ fn text_of<A: Allocator>(line: &MarkedLine<A>) -> &[u8]
 /// # Errors
 ///
 /// Only where the allocator refuses; the top Via value is one then.
+#[tactic(auto, using(crate::proofs::laws::ReadTop::read_by, crate::proofs::laws::ReadTop::sender_told, crate::proofs::laws::ReadTop::not_read, crate::proofs::laws::ReadTop::no_sender, crate::proofs::laws::ReadTop::reads))]
 pub fn read_top<'a, A: Allocator + Clone>(
     alloc: &A,
     message: &'a Message<A>,
@@ -117,10 +118,13 @@ pub fn read_top<'a, A: Allocator + Clone>(
         return Ok((TopVia { read: None }, None));
     };
     let sender = sender_in(&line.cut);
+    let marked = marked_of(alloc.clone()?, whole, &line, source)?;
+    let reply = reply_hop_unmarked(&line.cut, source);
+    let cookie = begins_with_cookie(sender.branch);
     let read = MarkedTop {
-        line: marked_of(alloc.clone()?, whole, &line, source)?,
-        reply: reply_hop_unmarked(&line.cut, source),
-        cookie: begins_with_cookie(sender.branch),
+        line: marked,
+        reply,
+        cookie,
     };
     Ok((TopVia { read: Some(read) }, Some(sender)))
 }

@@ -213,7 +213,7 @@ filled-by port param g name None small e spaces token none =
       token = token;
       valued = decimal-value port small;
     } in
-    (good, (refl, refl))
+    (good, refl, refl)
 
 filled-good : (port : ℕ) (param : List ℕ) → port < 2 ^ 64 → (h : IsViaParam param) → asks_port param ≡ true → (good : IsViaParam (filled port param)) × (good.name ≡ h.name) × (good.value ≡ Some (decimal port))
 filled-good port param small h asks =
@@ -265,7 +265,7 @@ branch-step port param rest params small h e =
                 let is_port = (and_parts (is_named (codes "rport") param) (is_none (value_of param)) asks).0 in
                 let other : is_named branch param ≡ false = other-name branch (codes "rport") (name_of param) refl is_port in
                 let good = filled-good port param small h asks in
-                let names : name_of (filled port param) ≡ name_of param = (param-says (filled port param) good.0).0 ∙ good.1.0 ∙ sym (param-says param h).0 in
+                let names : name_of (filled port param) ≡ name_of param = (param-says (filled port param) good.0).0 ∙ good.1 ∙ sym (param-says param h).0 in
                 let so : is_named branch (filled port param) ≡ false = ap (λ (n : List ℕ). bytes_eq (lowered n) (lowered branch)) names ∙ other in
                 ap (λ (x : List ℕ). first_named branch (x ∷ rest)) (cond-true _ _ _ asks) ∙ cond-false _ _ _ so ∙ e ∙ sym (cond-false _ _ _ other)
             | inr not_so ↦ ap (λ (x : List ℕ). first_named branch (x ∷ rest)) (cond-false _ _ _ not_so) ∙ ap (λ (v : Option (List ℕ)). cond (is_named branch param) (value_of param) v) e
@@ -301,8 +301,8 @@ rport-step port param rest params small h e =
                 let is_port = (and_parts (is_named (codes "rport") param) (is_none (value_of param)) asks).0 in
                 let good = filled-good port param (omega (arith, small)) h asks in
                 let says = param-says (filled port param) good.0 in
-                let names : name_of (filled port param) ≡ name_of param = says.0 ∙ good.1.0 ∙ sym (param-says param h).0 in
-                let valued : value_of (filled port param) ≡ Some (decimal port) = says.1 ∙ good.1.1 in
+                let names : name_of (filled port param) ≡ name_of param = says.0 ∙ good.1 ∙ sym (param-says param h).0 in
+                let valued : value_of (filled port param) ≡ Some (decimal port) = says.1 ∙ good.2 in
                 let number = port-number port (value_of (filled port param)) small valued in
                 let named : is_named (codes "rport") (filled port param) ≡ true = ap (λ (n : List ℕ). bytes_eq (lowered n) (lowered (codes "rport"))) names ∙ is_port in
                 grind (arith, common_steps)
