@@ -11,5 +11,5 @@ pub use Rattle.sip_build.specs.Forwarding.{forwarded}
 pub use Rattle.sip_text.specs.Text.{spelling}
 pub use Rattle.sip_uri.specs.Uri.{Uri}
 pub use Rattle.sip_via.specs.OwnVia.{over}
-pub use Rattle.sip_via.specs.declared.branch.BranchName.{BranchName}
+pub use Rattle.sip_branch.specs.declared.branch.BranchName.{BranchName}
 pub use Rattle.sip_via.specs.declared.own.Own.{Own}

@@ -23,7 +23,8 @@ use sip_route::loop_key;
 use sip_text::{HeaderLine, Message};
 use sip_txn::TxSend;
 use sip_uri::Hop;
-use sip_via::{BranchName, Own};
+use sip_branch::BranchName;
+use sip_via::Own;
 use std::alloc::{AllocError, Allocator, Global};
 use std::marker::Model;
 

@@ -6,7 +6,7 @@ use Rattle.sip_text.specs.Text.{MessageText, StartText, Request, Response}
 use Rattle.sip_uri.specs.declared.hop.Hop.{Hop}
 use Rattle.sip_uri.specs.Hop.{hop_of}
 use Rattle.sip_uri.specs.Uri.{Uri}
-use Rattle.sip_via.specs.declared.branch.BranchName.{BranchName}
+use Rattle.sip_branch.specs.declared.branch.BranchName.{BranchName}
 use Rattle.sip_via.specs.declared.own.Own.{Own}
 use Rattle.sip_route.specs.Loop.{loop_key}
 use Rattle.call_model.specs.declared.tried_contacts.TriedContacts.{TriedContacts}

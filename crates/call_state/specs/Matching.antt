@@ -4,9 +4,9 @@ use Rattle.sip_text.specs.declared.method.Method.TheVariants.{Ack, Cancel}
 use Rattle.sip_text.specs.Fields.{message_cseq}
 use Rattle.sip_text.specs.Method.{known_method}
 use Rattle.sip_text.specs.Text.{MessageText, StartText}
-use Rattle.sip_via.specs.declared.branch.BranchName.{BranchName}
+use Rattle.sip_branch.specs.declared.branch.BranchName.{BranchName}
 use Rattle.sip_via.specs.declared.own.Own.{Own}
-use Rattle.sip_via.specs.BranchText.{IsBranch}
+use Rattle.sip_branch.specs.BranchText.{IsBranch}
 use Rattle.sip_via.specs.OwnPass.{IsOwnBranch}
 use Rattle.sip_via.specs.TopVia.{has_second, top_value, via_values}
 use Rattle.sip_route.specs.RequestKey.{request_key}

@@ -2,7 +2,7 @@
 ghost use Rattle.std.specs.Prelude.{◌≡◌, ◌≢◌, ◌<◌, ◌^◌, ◌&&◌, ℕ, codes, false, true, IfNone, IfSome, None, Option, Some, option_map};
 ghost use Rattle.sip_text.specs.Fields.{CSeqText};
 ghost use Rattle.sip_route.specs.RequestKey.{request_key};
-ghost use Rattle.sip_via.specs.BranchText.{IsBranch};
+ghost use Rattle.sip_branch.specs.BranchText.{IsBranch};
 ghost use Rattle.sip_via.specs.TopVia.{top_value};
 ghost use Rattle.call_model.specs.Call.{is_cancel_sent, is_sent};
 ghost use Rattle.call_model.specs.OpenedRequest.{method_of};
@@ -15,7 +15,8 @@ use crate::state::CallState;
 use crate::transaction::MatchedTransaction;
 use sip_route::{has_key, has_same_key};
 use sip_text::{Message, Method, StartLine};
-use sip_via::{BranchName, has_second_via, own_branch};
+use sip_branch::BranchName;
+use sip_via::{has_second_via, own_branch};
 use std::alloc::Allocator;
 
 /// Shows that the numbers of a branch are bounded.

@@ -2,9 +2,9 @@
 use Rattle.std.proofs.Common.{◌≡◌, Some, sym}
 use Rattle.std.proofs.lemmas.Option.{same_Some}
 use Rattle.sip_text.specs.Text.{MessageText}
-use Rattle.sip_via.specs.declared.branch.BranchName.{BranchName}
+use Rattle.sip_branch.specs.declared.branch.BranchName.{BranchName}
 use Rattle.sip_via.specs.declared.own.Own.{Own}
-use Rattle.sip_via.specs.BranchText.{IsBranch}
+use Rattle.sip_branch.specs.BranchText.{IsBranch}
 use Rattle.sip_via.specs.OwnPass.{IsOwnBranch}
 use Rattle.sip_via.specs.TopVia.{top_value}
 use Rattle.call_state.specs.Matching.{IsReadBranch}

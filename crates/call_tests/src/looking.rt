@@ -10,7 +10,7 @@ use crate::state::{
 };
 use call_model::{Cause, Taken};
 use call_state::CallState;
-use sip_via::BranchName;
+use sip_branch::BranchName;
 
 /// What names the second branch of the call.
 pub(crate) const SECOND_NAME: BranchName = BranchName {

@@ -10,7 +10,7 @@ use Rattle.sip_text.specs.Message.{read_at}
 use Rattle.sip_text.specs.Reading.{Fault}
 use Rattle.sip_text.specs.Text.{HeaderText, spelling}
 use Rattle.sip_uri.specs.Uri.{Uri}
-use Rattle.sip_via.specs.declared.branch.BranchName.{BranchName}
+use Rattle.sip_branch.specs.declared.branch.BranchName.{BranchName}
 use Rattle.sip_via.specs.declared.own.ViaFault.TheVariants.{BadVia}
 use Rattle.sip_via.specs.ViaFaults.{refusal}
 use Rattle.sip_build.specs.declared.responses.OwnStatus.{OwnStatus}

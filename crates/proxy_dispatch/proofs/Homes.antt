@@ -1,8 +1,8 @@
 -- The call that a response names.
 use Rattle.proxy_dispatch.proofs.Common.{◌≡◌, ◌∙◌, ℕ, Option, Some, None, ap, refl, sym, subst, MessageText, Own, Setup}
 use Rattle.std.proofs.lemmas.Option.{same_Some}
-use Rattle.sip_via.specs.declared.branch.BranchName.{BranchName}
-use Rattle.sip_via.specs.BranchText.{IsBranch}
+use Rattle.sip_branch.specs.declared.branch.BranchName.{BranchName}
+use Rattle.sip_branch.specs.BranchText.{IsBranch}
 use Rattle.sip_via.specs.OwnPass.{IsOwnBranch}
 use Rattle.sip_via.specs.TopVia.{top_value}
 use Rattle.call_state.specs.Matching.{IsReadBranch}

@@ -6,9 +6,9 @@ use Rattle.sip_text.specs.Reading.{Fault, Short}
 use Rattle.sip_text.specs.Refusal.{IsRefused}
 use Rattle.sip_text.specs.Text.{MessageText}
 use Rattle.sip_uri.specs.declared.hop.Hop.{Hop}
-use Rattle.sip_via.specs.declared.branch.BranchName.{BranchName}
+use Rattle.sip_branch.specs.declared.branch.BranchName.{BranchName}
 use Rattle.sip_via.specs.declared.own.ViaFault.{ViaFault}
-use Rattle.sip_via.specs.BranchText.{IsBranch}
+use Rattle.sip_branch.specs.BranchText.{IsBranch}
 use Rattle.sip_via.specs.OwnPass.{IsOwnBranch}
 use Rattle.sip_via.specs.Received.{marked}
 use Rattle.sip_via.specs.TopVia.{top_value}

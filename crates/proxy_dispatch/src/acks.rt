@@ -23,7 +23,8 @@ use sip_build::{own_tag, write_forwarded};
 use sip_route::{first_route, loop_key};
 use sip_text::Message;
 use sip_uri::{Hop, SipUri};
-use sip_via::{BranchName, TopVia};
+use sip_branch::BranchName;
+use sip_via::TopVia;
 use std::alloc::{AllocError, Allocator};
 use std::sync::Wait;
 

@@ -15,7 +15,8 @@ use call_table::{PendingFault, Shelf};
 use fork_call::{Call, PendingCall, TakeFault, Taken};
 use sip_text::Message;
 use sip_uri::Hop;
-use sip_via::{BranchName, Own};
+use sip_branch::BranchName;
+use sip_via::Own;
 use std::alloc::Allocator;
 use std::sync::Wait;
 

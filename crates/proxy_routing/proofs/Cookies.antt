@@ -2,7 +2,7 @@
 use Rattle.proxy_routing.proofs.Common.{◌≡◌, ◌∙◌, false, Option, Some, Result, Ok, Err, refl, sym, ap}
 use Rattle.std.proofs.Common.{None}
 use Rattle.std.proofs.lemmas.Option.{same_Some}
-use Rattle.sip_via.specs.BranchText.{cookie}
+use Rattle.sip_branch.specs.BranchText.{cookie}
 use Rattle.sip_via.specs.declared.own.ViaFault.{ViaFault}
 use Rattle.sip_via.specs.Sender.{SenderText, sender, sender_if_read}
 use Rattle.sip_via.specs.ViaParts.{ViaText, or_empty}

@@ -10,7 +10,7 @@ use Rattle.sip_uri.specs.declared.hop.Hop.{Hop}
 use Rattle.sip_uri.specs.Reading.{read_uri}
 use Rattle.sip_uri.specs.Uri.{Uri}
 use Rattle.sip_via.specs.declared.own.ViaFault.{ViaFault}
-use Rattle.sip_via.specs.BranchText.{cookie}
+use Rattle.sip_branch.specs.BranchText.{cookie}
 use Rattle.sip_via.specs.Received.{marked}
 use Rattle.sip_via.specs.TopVia.{top_value}
 use Rattle.sip_via.specs.ViaParts.{ViaText, branch_of, or_empty, read_via}

@@ -6,7 +6,7 @@ ghost use Rattle.sip_uri.specs.declared.fault.UriFault.{UriFault};
 ghost use Rattle.sip_uri.specs.Fault.{fault_if_refused};
 ghost use Rattle.sip_uri.specs.Uri.{Uri};
 ghost use Rattle.sip_route.specs.Hops.{hops_of};
-ghost use Rattle.sip_via.specs.BranchText.{cookie};
+ghost use Rattle.sip_branch.specs.BranchText.{cookie};
 ghost use Rattle.sip_via.specs.ViaParts.{or_empty};
 ghost use Rattle.proxy_routing.specs.Admission.{are_hops, asks_extension, begins_with, has_via, is_spent, is_uri_or_other, is_well_formed, target_uri};
 

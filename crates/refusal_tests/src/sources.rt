@@ -3,7 +3,8 @@ use crate::answers::{Judge, answered, discard};
 use failing_allocator::{Attempt, Heap, Refusing};
 use sip_text::{Message, ReadFault};
 use sip_uri::{Hop, SipUri, Transport, UriFault};
-use sip_via::{BranchName, Own};
+use sip_branch::BranchName;
+use sip_via::Own;
 use std::alloc::Global;
 
 pub type Alloc<'a> = &'a Refusing<Global>;

@@ -15,7 +15,7 @@ use sip_build::{
 use sip_route::append_request_key;
 use sip_text::{Message, StartLine};
 use sip_uri::SipUri;
-use sip_via::write_branch;
+use sip_branch::write_branch;
 
 /// What is appended.
 #[derive(Clone, Copy)]

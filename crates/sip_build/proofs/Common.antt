@@ -31,16 +31,16 @@ pub use Rattle.sip_uri.specs.Uri.{Uri, request_uri}
 pub use Rattle.sip_via.proofs.laws.Places.{replaced-split}
 pub use Rattle.sip_via.proofs.laws.PlainVia.{is-not}
 pub use Rattle.sip_via.proofs.laws.Replaced.{SameOthers, apart, values-replaced}
-pub use Rattle.sip_via.proofs.laws.Tokens.{all_pass}
+pub use Rattle.sip_branch.proofs.laws.Tokens.{all_pass}
 pub use Rattle.sip_via.specs.Address.{address_text}
-pub use Rattle.sip_via.specs.BranchText.{branch_text}
+pub use Rattle.sip_branch.specs.BranchText.{branch_text}
 pub use Rattle.sip_via.specs.Edits.{line, line_if_any, place_of, replaced, with_headers}
 pub use Rattle.sip_lex.specs.HexPair.{hex_text}
 pub use Rattle.sip_route.specs.Lines.{lines_among}
 pub use Rattle.sip_via.specs.OwnVia.{own_via}
 pub use Rattle.sip_via.specs.TopVia.{values_in, via_values}
 pub use Rattle.sip_via.specs.ViaParts.{or_empty}
-pub use Rattle.sip_via.specs.declared.branch.BranchName.{BranchName}
+pub use Rattle.sip_branch.specs.declared.branch.BranchName.{BranchName}
 pub use Rattle.sip_via.specs.declared.own.Own.{Own}
 pub use Rattle.sip_build.specs.Exchanged.{exchanged, is_other}
 pub use Rattle.sip_build.specs.Forwarding.{forwarded, hops_lowered, is_request, record_route_lines, to_target}

@@ -7,7 +7,7 @@ use Rattle.sip_text.specs.Text.{HeaderText, MessageText, Request, Response, Star
 use Rattle.sip_uri.specs.Uri.{Uri, request_uri}
 use Rattle.sip_route.specs.Hops.{hops_name}
 use Rattle.sip_via.specs.declared.own.Own.{Own}
-use Rattle.sip_via.specs.declared.branch.BranchName.{BranchName}
+use Rattle.sip_branch.specs.declared.branch.BranchName.{BranchName}
 use Rattle.sip_via.specs.Edits.{line, line_if_any, replaced}
 use Rattle.sip_via.specs.OwnVia.{own_via}
 

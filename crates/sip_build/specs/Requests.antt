@@ -5,7 +5,7 @@ use Rattle.sip_text.specs.Fields.{value_of}
 use Rattle.sip_text.specs.Text.{HeaderText, MessageText, Request}
 use Rattle.sip_uri.specs.Uri.{Uri}
 use Rattle.sip_uri.specs.Uri as uri
-use Rattle.sip_via.specs.declared.branch.BranchName.{BranchName}
+use Rattle.sip_branch.specs.declared.branch.BranchName.{BranchName}
 use Rattle.sip_via.specs.declared.own.Own.{Own}
 use Rattle.sip_via.specs.Edits.{line}
 use Rattle.sip_route.specs.Lines.{lines_as, lines_named}

@@ -21,7 +21,8 @@ use itoa::Buffer;
 use sip_lex::read_number;
 use sip_text::{HeaderLines, Message, StartLine};
 use sip_uri::SipUri;
-use sip_via::{BranchName, Own, header_index};
+use sip_branch::BranchName;
+use sip_via::{Own, header_index};
 use std::alloc::{AllocError, Allocator};
 
 const MAX_FORWARDS: &[u8] = b"max-forwards";

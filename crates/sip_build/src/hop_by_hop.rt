@@ -9,9 +9,9 @@ ghost use Rattle.sip_text.specs.Name.{first_value, values_of};
 ghost use Rattle.sip_text.specs.Seen.{view_lines, views};
 ghost use Rattle.sip_text.specs.Text.{spelling};
 ghost use Rattle.sip_uri.specs.Uri.{Uri};
-ghost use Rattle.sip_via.specs.declared.branch.BranchName.{BranchName};
+ghost use Rattle.sip_branch.specs.declared.branch.BranchName.{BranchName};
 ghost use Rattle.sip_via.specs.declared.own.Own.{Own};
-ghost use Rattle.sip_via.specs.BranchText.{IsBranch};
+ghost use Rattle.sip_branch.specs.BranchText.{IsBranch};
 ghost use Rattle.sip_via.specs.Edits.{line};
 ghost use Rattle.sip_via.specs.OwnVia.{IsOwn, own_via};
 ghost use Rattle.sip_route.specs.Loop.{cseq_number};
@@ -27,7 +27,8 @@ use sip_lex::cut_at_space;
 use sip_route::first_value;
 use sip_text::{HeaderLine, HeaderLines, Message};
 use sip_uri::SipUri;
-use sip_via::{BranchName, Own};
+use sip_branch::BranchName;
+use sip_via::Own;
 use std::alloc::{AllocError, Allocator};
 
 /// Shows that the numbers of the proxy's address are bounded.

@@ -3,9 +3,9 @@
 ghost use Rattle.std.specs.Prelude.{◌≡◌, ℕ, List, [], Option, codes, true};
 ghost use Rattle.sip_text.specs.Text.{HeaderText, MessageText};
 ghost use Rattle.sip_uri.specs.Uri.{Uri};
-ghost use Rattle.sip_via.specs.declared.branch.BranchName.{BranchName};
+ghost use Rattle.sip_branch.specs.declared.branch.BranchName.{BranchName};
 ghost use Rattle.sip_via.specs.declared.own.Own.{Own};
-ghost use Rattle.sip_via.specs.BranchText.{IsBranch};
+ghost use Rattle.sip_branch.specs.BranchText.{IsBranch};
 ghost use Rattle.sip_via.specs.OwnVia.{IsOwn};
 ghost use Rattle.sip_route.specs.Routes.{stripped};
 ghost use Rattle.sip_build.specs.declared.responses.OwnStatus.{OwnStatus};

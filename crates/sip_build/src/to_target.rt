@@ -14,7 +14,8 @@ use crate::parts::ask_for_lines;
 use crate::runs::{HeaderRun, append_tail, tail_len};
 use sip_lex::whole_or_nothing;
 use sip_uri::SipUri;
-use sip_via::{BranchName, Own};
+use sip_branch::BranchName;
+use sip_via::Own;
 use std::alloc::{AllocError, Allocator};
 
 /// Appends the request line of a request to a target, or a part of it.

@@ -39,7 +39,8 @@ pub use Rattle.sip_uri.specs.Uri.{Uri, request_uri}
 pub use Rattle.sip_uri.specs.declared.hop.Hop.{Hop}
 pub use Rattle.sip_via.proofs.laws.PlainVia.{is-not}
 pub use Rattle.sip_via.proofs.laws.Replaced.{SameOthers, all-replaced, apart, values-replaced}
-pub use Rattle.sip_via.proofs.laws.Tokens.{all_pass, decimal_high, high_line, high_no_space, is_high, no_space}
+pub use Rattle.sip_via.proofs.laws.Tokens.{decimal_high, high_line, high_no_space, is_high, no_space}
+use Rattle.sip_branch.proofs.laws.Tokens.{all_pass}
 pub use Rattle.sip_via.specs.Address.{IsAddress, address_text, dotted}
 pub use Rattle.sip_via.specs.Edits.{line, replaced}
 pub use Rattle.sip_route.specs.Lines.{first_line, has_name, lines_as, lines_named}
@@ -48,7 +49,7 @@ pub use Rattle.sip_via.specs.Received.{IsSource, asks_port, filled, gets_receive
 pub use Rattle.sip_via.specs.TopVia.{first_or_empty, has_second, top_value, values_in, via_values}
 pub use Rattle.sip_via.specs.ViaGrammar.{AreParamGaps, AreViaGaps, IsSpace, IsValue, IsVia, IsViaParam, ParamGaps, ViaGaps, param_spelling, spaced, spelling}
 pub use Rattle.sip_via.specs.ViaParts.{ViaText, are_parts, branch_of, first_named, is_named, is_value_byte, is_via, name_of, or_empty, parts_of, read_via, via_of}
-pub use Rattle.sip_via.specs.declared.branch.BranchName.{BranchName}
+pub use Rattle.sip_branch.specs.declared.branch.BranchName.{BranchName}
 pub use Rattle.sip_via.specs.declared.own.Own.{Own}
 pub use Rattle.sip_via.specs.declared.own.ViaFault.{ViaFault}
 pub use Rattle.sip_route.specs.Hops.{IsHops, hops_name}

@@ -3,7 +3,7 @@
 ghost use Rattle.std.specs.Prelude.{◌≡◌, None, IfErr, IfOk, IfSome, true};
 ghost use Rattle.sip_text.specs.Name.{first_value};
 ghost use Rattle.sip_via.specs.declared.own.BuildFault.TheVariants.{NoMemory};
-ghost use Rattle.sip_via.specs.BranchText.{IsBranch};
+ghost use Rattle.sip_branch.specs.BranchText.{IsBranch};
 ghost use Rattle.sip_via.specs.OwnVia.{IsOwn};
 ghost use Rattle.sip_build.specs.Forwarding.{forwarded, is_request};
 ghost use Rattle.sip_route.specs.Hops.{IsHops, hops_name};
@@ -12,7 +12,8 @@ use crate::written::read_written;
 use sip_build::write_forwarded;
 use sip_text::Message;
 use sip_uri::SipUri;
-use sip_via::{BranchName, BuildFault, Own};
+use sip_branch::BranchName;
+use sip_via::{BuildFault, Own};
 use std::alloc::Allocator;
 
 /// Shows that the numbers of the proxy's address are bounded.

@@ -4,9 +4,9 @@ ghost use Rattle.std.specs.Prelude.{◌≡◌, ◌<◌, ◌≤◌, ◌∷◌, �
 ghost use Rattle.fork_model.specs.Table as table;
 ghost use Rattle.sip_text.specs.Text.{MessageText};
 ghost use Rattle.sip_uri.specs.Uri.{Uri};
-ghost use Rattle.sip_via.specs.declared.branch.BranchName.{BranchName};
+ghost use Rattle.sip_branch.specs.declared.branch.BranchName.{BranchName};
 ghost use Rattle.sip_via.specs.declared.own.Own.{Own};
-ghost use Rattle.sip_via.specs.BranchText.{IsBranch};
+ghost use Rattle.sip_branch.specs.BranchText.{IsBranch};
 ghost use Rattle.sip_via.specs.OwnPass.{IsOwnBranch};
 ghost use Rattle.sip_via.specs.OwnVia.{IsOwn, own_via};
 ghost use Rattle.sip_via.specs.TopVia.{has_second, via_values};

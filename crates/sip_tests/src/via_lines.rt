@@ -5,9 +5,8 @@ use crate::messages::read;
 use sip_route::{headers_around, request_uri};
 use sip_text::HeaderLines;
 use sip_uri::Transport;
-use sip_via::{
-    BranchName, Own, first_is, has_second_via, header_index, own_via, top_and_second, top_via,
-};
+use sip_branch::BranchName;
+use sip_via::{Own, first_is, has_second_via, header_index, own_via, top_and_second, top_via};
 use std::alloc::Global;
 
 const REQUEST: &[u8] =

@@ -9,7 +9,7 @@ use sip_build::{write_forwarded, write_forwarded_ack, write_forwarded_cancel};
 use sip_builders::forward;
 use sip_text::{Message, StartLine};
 use sip_uri::SipUri;
-use sip_via::BranchName;
+use sip_branch::BranchName;
 use std::alloc::Global;
 
 const BRANCH: BranchName = BranchName {

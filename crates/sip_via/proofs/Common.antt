@@ -39,7 +39,7 @@ pub use Rattle.sip_uri.proofs.laws.Hosts.{other_than}
 pub use Rattle.sip_uri.specs.Host.{IsHost, IsPort, host_len, is_address_byte, is_host_byte}
 pub use Rattle.sip_uri.specs.declared.hop.Hop.{Hop}
 pub use Rattle.sip_via.specs.Address.{IsAddress, address_text, dotted}
-pub use Rattle.sip_via.specs.BranchText.{IsBranch, branch_text, cookie}
+pub use Rattle.sip_branch.specs.BranchText.{IsBranch, branch_text, cookie}
 pub use Rattle.sip_via.specs.Edits.{begins_named, changed_first, line, line_if_any, place_of, replaced, with_headers}
 pub use Rattle.sip_lex.specs.HexPair.{hex_pair, hex_text}
 pub use Rattle.sip_via.specs.OwnVia.{IsOwn, own_via}
@@ -47,11 +47,11 @@ pub use Rattle.sip_via.specs.Received.{IsSource, asks_port, filled, first_via_li
 pub use Rattle.sip_via.specs.TopVia.{values_in}
 pub use Rattle.sip_via.specs.ViaGrammar.{AreParamGaps, AreViaGaps, IsSpace, IsValue, IsVia, IsViaParam, ParamGaps, ViaGaps, param_spelling, param_text, spaced, spelling, tail_spelling}
 pub use Rattle.sip_via.specs.ViaParts.{Parts, ViaText, are_parts, first_named, is_named, is_param, is_value_byte, is_value_if_any, is_via, is_whole, name_of, or_empty, params_of, parts_of, port_and_params, read_via, value_of, via_of}
-pub use Rattle.sip_via.specs.declared.branch.BranchName.{BranchName}
+pub use Rattle.sip_branch.specs.declared.branch.BranchName.{BranchName}
 pub use Rattle.sip_via.specs.declared.own.Own.{Own}
 pub use Rattle.sip_via.specs.declared.own.ViaFault.{ViaFault}
 pub use Rattle.sip_via.specs.declared.own.ViaFault.TheVariants.{BadVia}
-pub use Rattle.sip_via.specs.inner.BranchParts.{BranchParts, branch_parts, with_key}
+pub use Rattle.sip_branch.specs.inner.BranchParts.{BranchParts, branch_parts, with_key}
 pub use Rattle.sip_via.specs.inner.Fronts.{behind_address, behind_marked, is_end, behind_text}
 pub use Rattle.sip_via.specs.OwnPass.{IsOwnBranch}
 pub use Rattle.sip_via.specs.SeenVia.{values_behind}

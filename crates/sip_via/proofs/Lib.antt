@@ -1,9 +1,6 @@
 pub mod Common
 pub mod laws
-pub mod BranchLaws
-pub mod BranchPlaced
 pub mod ViaWalk
-pub mod KeyDigits
 pub mod FrontLaws
 pub mod TrimmedLen
 pub mod ViaReads

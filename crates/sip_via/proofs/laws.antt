@@ -1,5 +1,4 @@
 pub mod Digits
-pub mod HexLaws
 pub mod Marked
 pub mod MarkedValues
 pub mod MarkedVia

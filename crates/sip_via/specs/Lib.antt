@@ -1,5 +1,4 @@
 pub mod Address
-pub mod BranchText
 pub mod Edits
 pub mod OwnPass
 pub mod OwnVia

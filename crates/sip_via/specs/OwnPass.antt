@@ -1,9 +1,9 @@
 -- Which Via values this proxy put (RFC 3261 sections 16.3 step 4 and 16.6 step 8).
 use Rattle.std.specs.Prelude.{◌≡◌, ℕ, List, Some, Ok}
-use Rattle.sip_via.specs.declared.branch.BranchName.{BranchName}
+use Rattle.sip_branch.specs.declared.branch.BranchName.{BranchName}
 use Rattle.sip_via.specs.declared.own.Own.{Own}
 use Rattle.sip_via.specs.Address.{address_text}
-use Rattle.sip_via.specs.BranchText.{IsBranch, branch_text}
+use Rattle.sip_branch.specs.BranchText.{IsBranch, branch_text}
 use Rattle.sip_via.specs.Received.{port_or_default}
 use Rattle.sip_via.specs.ViaParts.{ViaText, branch_of, port_if_any, read_via}
 

@@ -5,8 +5,8 @@ use Rattle.sip_uri.specs.declared.hop.Transport.{Transport}
 use Rattle.sip_uri.specs.declared.hop.Transport.TheVariants.{Udp, Tcp, Back}
 use Rattle.sip_via.specs.declared.own.Own.{Own}
 use Rattle.sip_via.specs.Address.{IsAddress, address_text}
-use Rattle.sip_via.specs.declared.branch.BranchName.{BranchName}
-use Rattle.sip_via.specs.BranchText.{branch_text}
+use Rattle.sip_branch.specs.declared.branch.BranchName.{BranchName}
+use Rattle.sip_branch.specs.BranchText.{branch_text}
 
 -- an address and a port of numbers that 64 bits hold
 pub record IsOwn (own : Own) : Type 0 where

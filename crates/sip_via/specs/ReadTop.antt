@@ -3,7 +3,7 @@ use Rattle.std.specs.Prelude.{◌≡◌, ℕ, Bool, true, false, List, length, t
 use Rattle.std.specs.Str.{bytes_eq}
 use Rattle.sip_text.specs.Text.{MessageText}
 use Rattle.sip_uri.specs.declared.hop.Hop.{Hop}
-use Rattle.sip_via.specs.BranchText.{cookie}
+use Rattle.sip_branch.specs.BranchText.{cookie}
 use Rattle.sip_via.specs.Received.{marked, reply_of, with_via_line}
 use Rattle.sip_via.specs.TopVia.{top_value}
 use Rattle.sip_via.specs.ViaParts.{branch_of, is_via, or_empty, via_of}

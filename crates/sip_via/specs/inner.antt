@@ -1,4 +1,3 @@
-pub mod BranchParts
 pub mod CutLines
 pub mod Fronts
 pub mod Replies

@@ -4,7 +4,6 @@
 #![tactic(auto)]
 
 mod address;
-mod branch;
 mod cut;
 mod edits;
 mod first_line;
@@ -22,7 +21,6 @@ mod values;
 mod via;
 
 pub use address::is_address;
-pub use branch::{BranchName, read_branch, write_branch};
 pub use edits::{first_is, header_index};
 pub use first_line::marked_line;
 pub use marking::{marking_keeps_the_rest, readable_is_marked};

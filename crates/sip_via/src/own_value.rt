@@ -5,8 +5,8 @@ ghost use Rattle.sip_text.specs.Message.{is_value};
 ghost use Rattle.sip_via.specs.OwnVia.{IsOwn, own_via, word_of};
 
 use crate::address::add_address;
-use crate::branch::{BranchName, write_branch};
 use crate::own::Own;
+use sip_branch::{BranchName, write_branch};
 use sip_lex::append_decimal;
 use sip_uri::Transport;
 use std::alloc::{AllocError, Allocator};

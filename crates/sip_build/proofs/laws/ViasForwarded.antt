@@ -6,10 +6,10 @@ use Rattle.std.proofs.lemmas.List.{reverse-reverse}
 use Rattle.sip_lex.specs.Bytes.{is_token_byte}
 use Rattle.sip_text.specs.Name.{full_name, values_of}
 use Rattle.sip_uri.specs.Uri as uri
-use Rattle.sip_via.specs.BranchText.{IsBranch}
+use Rattle.sip_branch.specs.BranchText.{IsBranch}
 use Rattle.sip_via.specs.OwnVia.{IsOwn}
 use Rattle.sip_via.proofs.laws.OwnVia.{own_via-good}
-use Rattle.sip_via.proofs.laws.Tokens.{branch_token, dotted}
+use Rattle.sip_branch.proofs.laws.Tokens.{branch_token, dotted}
 use Rattle.sip_via.proofs.laws.PlainVia.{no-front}
 use Rattle.sip_route.specs.Loop.{request_uri}
 use Rattle.sip_build.proofs.laws.ForwardedOthers.{hops-others, recorded-others, recorded-routes, recorded-vias, via-others}

@@ -2,7 +2,7 @@
 use Rattle.std.specs.Prelude.{ℕ, List, ◌∷◌, codes}
 use Rattle.sip_text.specs.Text.{MessageText, Request}
 use Rattle.sip_uri.specs.Uri.{Uri, request_uri}
-use Rattle.sip_via.specs.declared.branch.BranchName.{BranchName}
+use Rattle.sip_branch.specs.declared.branch.BranchName.{BranchName}
 use Rattle.sip_via.specs.declared.own.Own.{Own}
 use Rattle.sip_via.specs.Edits.{line}
 use Rattle.sip_via.specs.OwnVia.{own_via}

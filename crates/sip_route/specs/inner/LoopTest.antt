@@ -2,8 +2,8 @@
 -- Here: what no public contract reaches.
 use Rattle.std.specs.Prelude.{ℕ, List}
 use Rattle.sip_via.specs.declared.own.Own.{Own}
-use Rattle.sip_via.specs.declared.branch.BranchName.{BranchName}
-use Rattle.sip_via.specs.BranchText.{IsBranch}
+use Rattle.sip_branch.specs.declared.branch.BranchName.{BranchName}
+use Rattle.sip_branch.specs.BranchText.{IsBranch}
 use Rattle.sip_via.specs.OwnPass.{IsOwnBranch}
 
 -- the proxy put the value, for a request of whatever key

@@ -9,7 +9,8 @@ use sip_builders::{forward, mark_received};
 use sip_route::{is_loop, loop_key};
 use sip_text::{Message, StartLine};
 use sip_uri::SipUri;
-use sip_via::{BranchName, Via, read_branch, top_via};
+use sip_branch::{BranchName, read_branch};
+use sip_via::{Via, top_via};
 use std::alloc::Global;
 
 const BRANCH: BranchName = BranchName {

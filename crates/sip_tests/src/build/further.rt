@@ -15,7 +15,7 @@ use sip_build::{
 };
 use sip_text::{HeaderLine, Message, StartLine};
 use sip_uri::SipUri;
-use sip_via::BranchName;
+use sip_branch::BranchName;
 use std::alloc::Global;
 
 const BRANCH: BranchName = BranchName {

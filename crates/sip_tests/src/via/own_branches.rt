@@ -2,7 +2,8 @@
 use crate::holds::holds;
 use crate::messages::{OWN, request_with_via};
 use crate::rows::holds_in_row;
-use sip_via::{BranchName, own_branch, own_branch_of};
+use sip_branch::BranchName;
+use sip_via::{own_branch, own_branch_of};
 use std::alloc::Global;
 
 /// A branch of the proxy's own.

@@ -11,7 +11,7 @@ use Rattle.sip_via.specs.ViaParts.{is_trimmed as is_via_trimmed}
 use Rattle.sip_via.proofs.laws.ViaFound.{via_found}
 use Rattle.sip_via.proofs.laws.TrimmedValues.{all-parts, all-trim}
 use Rattle.sip_via.proofs.laws.Replaced.{first-good, with_via-good}
-use Rattle.sip_via.proofs.laws.HexLaws.{head_of}
+use Rattle.sip_branch.proofs.laws.HexLaws.{head_of}
 
 abbrev Cut : Type 0
 Cut = List ℕ × Option (List ℕ)

@@ -17,7 +17,7 @@ use Rattle.sip_via.proofs.laws.ViaFound.{via_found}
 use Rattle.sip_via.proofs.laws.ViaOnly.{IsBare, Starts, all_joined, all_reverse, bare_trim, unsplit_all, host_bare, neither, on_some, param_front, param_joins, params_again, port_bare, semicolon, space_unsplit, tail_of}
 use Rattle.sip_via.proofs.laws.ViaOnly.{token_bare, value_bare, value_in, value_trims, with_params}
 use Rattle.sip_via.proofs.laws.OwnVia.{IsEnd, end-behind}
-use Rattle.sip_via.proofs.laws.Tokens.{all_pass}
+use Rattle.sip_branch.proofs.laws.Tokens.{all_pass}
 use Rattle.sip_via.proofs.laws.ViaFronts.{IsFront, behind_name, core, core-unsplit, port_spelling, sender, spelled, spelling-split}
 
 -- ---- space at the ends

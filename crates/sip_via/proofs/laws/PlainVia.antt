@@ -11,11 +11,11 @@ use Rattle.sip_lex.specs.Number.{number}
 use Rattle.sip_lex.proofs.laws.Trims.{trim_end-token}
 use Rattle.sip_uri.specs.Host.{is_port}
 use Rattle.sip_via.specs.Received.{port_or_default}
-use Rattle.sip_via.proofs.BranchLaws.{branch_again, number_same}
+use Rattle.sip_branch.proofs.BranchLaws.{branch_again, number_same}
 use Rattle.sip_via.proofs.laws.ViaOnly.{via_again}
-use Rattle.sip_via.proofs.laws.HexLaws.{hex_text_one}
+use Rattle.sip_branch.proofs.laws.HexLaws.{hex_text_one}
 use Rattle.sip_via.proofs.laws.OwnVia.{own_via-good}
-use Rattle.sip_via.proofs.laws.Tokens.{all_pass, branch_token}
+use Rattle.sip_branch.proofs.laws.Tokens.{all_pass, branch_token}
 
 -- ---- the address
 

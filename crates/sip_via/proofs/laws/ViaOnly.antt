@@ -17,7 +17,8 @@ use Rattle.sip_uri.proofs.laws.Hosts.{IsHost-is_host}
 use Rattle.sip_uri.proofs.laws.Only.{port_good}
 use Rattle.sip_via.specs.ViaGrammar.{params_spelling, value_spelling}
 use Rattle.sip_via.specs.ViaParts.{are_parts, is_value, parts_of}
-use Rattle.sip_via.proofs.laws.Tokens.{all_pass, no_space}
+use Rattle.sip_via.proofs.laws.Tokens.{no_space}
+use Rattle.sip_branch.proofs.laws.Tokens.{all_pass}
 
 abbrev Cut : Type 0
 Cut = List ℕ × Option (List ℕ)

@@ -1,5 +1,5 @@
 use Rattle.sip_build.proofs.Common.{rules}
-use Rattle.sip_via.proofs.laws.Tokens.{all_small}
+use Rattle.sip_branch.proofs.laws.Tokens.{all_small}
 use Rattle.sip_build.proofs.hop_by_hop.fact_branch.Goals as goal
 
 pub returns : goal.returns

@@ -1,5 +1,5 @@
 use Rattle.sip_builders.proofs.Common.{rules}
-use Rattle.sip_via.proofs.laws.Tokens.{all_small}
+use Rattle.sip_branch.proofs.laws.Tokens.{all_small}
 use Rattle.sip_builders.proofs.forwarding.fact_branch.Goals as goal
 
 pub returns : goal.returns

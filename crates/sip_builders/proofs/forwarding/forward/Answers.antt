@@ -1,7 +1,7 @@
 use Rattle.sip_builders.proofs.Common.{None, forwarded}
 use Rattle.sip_uri.proofs.Requests.{request_bytes}
 use Rattle.sip_via.proofs.laws.OwnVia.{own_via-good}
-use Rattle.sip_via.proofs.laws.Tokens.{branch_token}
+use Rattle.sip_branch.proofs.laws.Tokens.{branch_token}
 use Rattle.sip_builders.proofs.Forwarded.{forwarded-good}
 use Rattle.sip_builders.proofs.WrittenTexts.{is_written, spelled}
 use Rattle.sip_builders.proofs.forwarding.forward.Goals as goal

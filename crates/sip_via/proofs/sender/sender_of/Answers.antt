@@ -1,5 +1,5 @@
 use Rattle.sip_via.proofs.ViaReads.{is_none, is_one}
-use Rattle.sip_via.proofs.laws.HexLaws.{none_so}
+use Rattle.sip_branch.proofs.laws.HexLaws.{none_so}
 use Rattle.sip_via.proofs.sender.sender_of.Goals as goal
 
 pub returns-in_err-cut-clause-none : goal.returns-in_err-cut-clause-none

@@ -1,0 +1,2 @@
+pub mod BranchText
+pub mod inner

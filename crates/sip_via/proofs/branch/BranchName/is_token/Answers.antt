@@ -1,5 +1,0 @@
-use Rattle.sip_via.proofs.Common.{common_steps, arith}
-use Rattle.sip_via.proofs.branch.BranchName.is_token.Goals as goal
-
-pub returns : goal.returns
-returns c = grind (arith, common_steps)

@@ -1,6 +1,0 @@
-use Rattle.sip_via.proofs.Common.{arith}
-use Rattle.sip_via.proofs.laws.Tokens.{all_small, key_token}
-use Rattle.sip_via.proofs.branch.digits_are_tokens.Goals as goal
-
-pub returns : goal.returns
-returns c = key_token c.args.bytes.now (all_small c.args.bytes.now (λ i. let h = c.type_inv.bytes i in omega (arith, h)))
