@@ -3,6 +3,7 @@ pub mod laws
 pub mod Added
 pub mod Unrouted
 pub mod Commas
+pub mod Fronts
 pub mod HopsPass
 pub mod KeyLaws
 pub mod KeyRead
