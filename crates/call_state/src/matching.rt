@@ -13,9 +13,9 @@ ghost use Rattle.call_state.specs.SeenMatchedTransaction.{seen_recipient};
 
 use crate::state::CallState;
 use crate::transaction::MatchedTransaction;
+use sip_branch::BranchName;
 use sip_route::{has_key, has_same_key};
 use sip_text::{Message, Method, StartLine};
-use sip_branch::BranchName;
 use sip_via::{has_second_via, own_branch};
 use std::alloc::Allocator;
 

@@ -41,9 +41,9 @@ use fork_model::{
 };
 use proxy_config::Setup;
 use proxy_routing::RequestRejection;
+use sip_branch::BranchName;
 use sip_text::Message;
 use sip_uri::Hop;
-use sip_branch::BranchName;
 use sip_via::{Own, TopVia};
 use std::alloc::{AllocError, Allocator, Global};
 use std::marker::Model;

@@ -13,9 +13,9 @@ ghost use Rattle.proxy_dispatch.specs.Looks.{AnswersTake, Found, Missed, Put, Se
 use crate::received::ReadRequest;
 use call_table::{PendingFault, Shelf};
 use fork_call::{Call, PendingCall, TakeFault, Taken};
+use sip_branch::BranchName;
 use sip_text::Message;
 use sip_uri::Hop;
-use sip_branch::BranchName;
 use sip_via::Own;
 use std::alloc::Allocator;
 use std::sync::Wait;

@@ -1,9 +1,9 @@
 //! Messages and a URI that are read, for calls that are made of them.
 use crate::answers::{Judge, answered, discard};
 use failing_allocator::{Attempt, Heap, Refusing};
+use sip_branch::BranchName;
 use sip_text::{Message, ReadFault};
 use sip_uri::{Hop, SipUri, Transport, UriFault};
-use sip_branch::BranchName;
 use sip_via::Own;
 use std::alloc::Global;
 

@@ -8,6 +8,7 @@ use crate::made_texts::{
 use crate::plays::plays;
 use crate::sources::{Alloc, BRANCH, MOVED, OWN, REQUEST, read, target};
 use failing_allocator::{Attempt, Heap, Play, Repeated};
+use sip_branch::write_branch;
 use sip_build::{
     OwnStatus, write_forwarded, write_forwarded_ack, write_forwarded_cancel,
     write_forwarded_response, write_own_response, write_own_route,
@@ -15,7 +16,6 @@ use sip_build::{
 use sip_route::append_request_key;
 use sip_text::{Message, StartLine};
 use sip_uri::SipUri;
-use sip_branch::write_branch;
 
 /// What is appended.
 #[derive(Clone, Copy)]

@@ -18,10 +18,10 @@ ghost use Rattle.sip_route.specs.Hops.{IsHops, hops_name};
 use crate::runs::{HeaderRun, kept_run, run_if_any};
 use crate::to_target::append_to_target;
 use itoa::Buffer;
+use sip_branch::BranchName;
 use sip_lex::read_number;
 use sip_text::{HeaderLines, Message, StartLine};
 use sip_uri::SipUri;
-use sip_branch::BranchName;
 use sip_via::{Own, header_index};
 use std::alloc::{AllocError, Allocator};
 

@@ -23,11 +23,11 @@ use crate::law::{ack_of_a_forwarded_request, cancel_of_a_forwarded_request};
 use crate::runs::{HeaderRun, Pick};
 use crate::to_target::append_to_target;
 use itoa::Buffer;
+use sip_branch::BranchName;
 use sip_lex::cut_at_space;
 use sip_route::first_value;
 use sip_text::{HeaderLine, HeaderLines, Message};
 use sip_uri::SipUri;
-use sip_branch::BranchName;
 use sip_via::Own;
 use std::alloc::{AllocError, Allocator};
 

@@ -10,8 +10,8 @@ ghost use Rattle.sip_build.specs.inner.Placed.{Placed};
 
 use crate::place::{place, place_one, place_two};
 use itoa::Buffer;
-use sip_uri::Transport;
 use sip_branch::{BranchName, write_branch};
+use sip_uri::Transport;
 use sip_via::Own;
 use std::alloc::{AllocError, Allocator};
 

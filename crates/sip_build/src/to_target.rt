@@ -12,9 +12,9 @@ ghost use Rattle.sip_build.specs.inner.ToTarget.{request_to};
 use crate::own_line::append_own_via;
 use crate::parts::ask_for_lines;
 use crate::runs::{HeaderRun, append_tail, tail_len};
+use sip_branch::BranchName;
 use sip_lex::whole_or_nothing;
 use sip_uri::SipUri;
-use sip_branch::BranchName;
 use sip_via::Own;
 use std::alloc::{AllocError, Allocator};
 

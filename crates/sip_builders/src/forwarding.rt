@@ -9,10 +9,10 @@ ghost use Rattle.sip_build.specs.Forwarding.{forwarded, is_request};
 ghost use Rattle.sip_route.specs.Hops.{IsHops, hops_name};
 
 use crate::written::read_written;
+use sip_branch::BranchName;
 use sip_build::write_forwarded;
 use sip_text::Message;
 use sip_uri::SipUri;
-use sip_branch::BranchName;
 use sip_via::{BuildFault, Own};
 use std::alloc::Allocator;
 

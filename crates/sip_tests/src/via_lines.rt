@@ -2,10 +2,10 @@
 use crate::bytes::is;
 use crate::holds::holds;
 use crate::messages::read;
+use sip_branch::BranchName;
 use sip_route::{headers_around, request_uri};
 use sip_text::HeaderLines;
 use sip_uri::Transport;
-use sip_branch::BranchName;
 use sip_via::{Own, first_is, has_second_via, header_index, own_via, top_and_second, top_via};
 use std::alloc::Global;
 

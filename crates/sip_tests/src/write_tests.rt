@@ -5,11 +5,11 @@ use crate::build::requests::{acknowledged, cancelled};
 use crate::holds::holds;
 use crate::messages::{OWN, REQUEST, ROUTED, is_written_so, may_pass, message_of};
 use crate::rows::holds_in_row;
+use sip_branch::BranchName;
 use sip_build::{write_forwarded, write_forwarded_ack, write_forwarded_cancel};
 use sip_builders::forward;
 use sip_text::{Message, StartLine};
 use sip_uri::SipUri;
-use sip_branch::BranchName;
 use std::alloc::Global;
 
 const BRANCH: BranchName = BranchName {

@@ -5,11 +5,11 @@ use crate::messages::{
     OWN, REQUEST, SOURCE, is_written_as, is_written_as_read, may_pass, message_of,
 };
 use crate::rows::holds_in_row;
+use sip_branch::{BranchName, read_branch};
 use sip_builders::{forward, mark_received};
 use sip_route::{is_loop, loop_key};
 use sip_text::{Message, StartLine};
 use sip_uri::SipUri;
-use sip_branch::{BranchName, read_branch};
 use sip_via::{Via, top_via};
 use std::alloc::Global;
 

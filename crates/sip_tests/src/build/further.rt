@@ -9,13 +9,13 @@ use crate::build::forwarding::VIA_LINE;
 use crate::bytes::is;
 use crate::holds::holds;
 use crate::messages::{OWN, may_pass, message_of, text_of};
+use sip_branch::BranchName;
 use sip_build::{
     OwnStatus, first_timestamp, reason_lines, stripping_keeps_answers, stripping_keeps_timestamps,
     write_forwarded, write_forwarded_cancel, write_own_response,
 };
 use sip_text::{HeaderLine, Message, StartLine};
 use sip_uri::SipUri;
-use sip_branch::BranchName;
 use std::alloc::Global;
 
 const BRANCH: BranchName = BranchName {

@@ -2,8 +2,8 @@
 use crate::bytes::has;
 use crate::holds::holds;
 use crate::rows::holds_in_row;
-use sip_lex::is_token;
 use sip_branch::{BranchName, read_branch, write_branch};
+use sip_lex::is_token;
 use std::alloc::Global;
 
 /// A branch with the largest numbers, and its text.
