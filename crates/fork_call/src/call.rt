@@ -173,7 +173,7 @@ impl<A: Allocator + Clone> Call<A> {
         now: u64,
     ) -> Result<Taken, TakeFault>
         requires belongs { BelongsTo self.old message (seen_recipient to) }
-        requires top { IfSome top.entry (λ top. IsTopOf message source top.now) }
+        requires top { IfSome top (λ top. IsTopOf message source top.now) }
         ensures step { IfOk result (λ taken. Takes self.old now message source (seen_taken taken) self.new) }
         ensures full { IsErrOf result TakeFault.Full → Takes self.old now message source take.Full self.old }
         ensures refused { IfErr result (λ fault. fault ≢ TakeFault.Stray) }
@@ -214,7 +214,8 @@ impl<A: Allocator + Clone> Call<A> {
         let Some(to) = match_transaction(&self.state, &message) else {
             return Err(TakeFault::Stray);
         };
-        self.take_by(to, message, source, None, now)
+        let unread: Option<TopVia<A>> = None;
+        self.take_by(to, message, source, unread.as_ref(), now)
     }
 
     /// The same of a response, in whose top Via value this branch of the proxy was read: that value is not read again.
@@ -240,7 +241,8 @@ impl<A: Allocator + Clone> Call<A> {
         let Some(to) = match_response(&self.state, &response, branch) else {
             return Err(TakeFault::Stray);
         };
-        self.take_by(to, response, source, None, now)
+        let unread: Option<TopVia<A>> = None;
+        self.take_by(to, response, source, unread.as_ref(), now)
     }
 
     /// The same of a request, which has this key, and of whose top Via value this was read: neither is read again.

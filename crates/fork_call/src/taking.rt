@@ -86,7 +86,7 @@ fn marked_cancel<A: Allocator + Clone>(
     top: Option<&TopVia<A>>,
 ) -> Result<(Message<A>, Hop), TakeFault>
     requires keyed { request_key message ≢ None }
-    requires top { IfSome top.entry (λ top. IsTopOf message source top.now) }
+    requires top { IfSome top (λ top. IsTopOf message source top.now) }
     ensures marked { IfOk result (λ cancel. marked message source ≡ Ok cancel.0) }
     ensures reply { IfOk result (λ cancel. cancel.1 ≡ reply_of (via_of (top_value cancel.0)) source) }
     ensures refused { IfErr result (λ fault. fault ≡ TakeFault.NoMemory) }
@@ -110,7 +110,7 @@ fn take_cancel<A: Allocator + Clone>(
 ) -> Result<Taken, TakeFault>
     requires sound { IsSound state.old }
     requires keyed { request_key message ≢ None }
-    requires top { IfSome top.entry (λ top. IsTopOf message source top.now) }
+    requires top { IfSome top (λ top. IsTopOf message source top.now) }
     ensures step { IfOk result (λ taken. TakesCancel state.old message source (seen_taken taken) state.new) }
     ensures refused { IfErr result (λ fault. fault ≡ TakeFault.NoMemory) }
     ensures err { OnErr result (state.new ≡ state.old) }
@@ -166,7 +166,7 @@ pub(crate) fn give<A: Allocator + Clone>(
 ) -> Result<Taken, TakeFault>
     requires sound { IsSound state.old }
     requires message { IsMessage message }
-    requires top { IfSome top.entry (λ top. IsTopOf message source top.now) }
+    requires top { IfSome top (λ top. IsTopOf message source top.now) }
     requires belongs { BelongsTo state.old message (seen_recipient to) }
     ensures step { IfOk result (λ taken. TakesAs state.old now message source (seen_recipient to) (seen_taken taken) state.new) }
     ensures full { IsErrOf result TakeFault.Full → TakesAs state.old now message source (seen_recipient to) take.Full state.new }
