@@ -40,7 +40,7 @@ pub use Rattle.sip_uri.specs.declared.hop.Hop.{Hop}
 pub use Rattle.sip_via.proofs.laws.PlainVia.{is-not}
 pub use Rattle.sip_via.proofs.laws.Replaced.{SameOthers, all-replaced, apart, values-replaced}
 pub use Rattle.sip_via.proofs.laws.Tokens.{decimal_high, high_line, high_no_space, is_high, no_space}
-use Rattle.sip_branch.proofs.laws.Tokens.{all_pass}
+pub use Rattle.sip_branch.proofs.laws.Tokens.{all_pass}
 pub use Rattle.sip_via.specs.Address.{IsAddress, address_text, dotted}
 pub use Rattle.sip_via.specs.Edits.{line, replaced}
 pub use Rattle.sip_route.specs.Lines.{first_line, has_name, lines_as, lines_named}
