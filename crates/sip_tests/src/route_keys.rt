@@ -156,7 +156,7 @@ const KEYLESS: [&[u8]; 4] = [
 fn is_sender_key(alloc: Global, value: &[u8], key: &[u8]) -> bool {
     let mut out = Vec::new(alloc);
     match sender_of(value) {
-        Some(sender) => append_sender_key(&mut out, sender) == Ok(true) && out == key,
+        Some(sender) => append_sender_key(&mut out, sender) == Ok(true) && out.as_slice() == key,
         None => false,
     }
 }
