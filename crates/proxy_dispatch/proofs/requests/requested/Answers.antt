@@ -26,4 +26,4 @@ pub deliver_request-requires-clause-request : goal.deliver_request-requires-clau
 deliver_request-requires-clause-request g c = a_request c.args.received.message.start c.args.purpose c.requires
 
 pub deliver_request-requires-clause-key : goal.deliver_request-requires-clause-key
-deliver_request-requires-clause-key g c = key_so _ _ _ _ _ c.in_ok-read.ensures.key c.in-Some.is c.deref.ensures.value
+deliver_request-requires-clause-key g c = key_so _ _ _ _ _ c.in_ok-read.ensures.key c.in-Some.is c.deref-in-Some-find.ensures.value
