@@ -76,7 +76,7 @@ fn gets<R: Wait>(rt: &R, quota: &Quota, lifetime: &Lifetime, now: u64) -> bool {
         lifetime,
         now,
     };
-    places.admits(rt, Opener::OutsideDialog)
+    Admission::<Global>::admits(&places, rt, Opener::OutsideDialog)
 }
 
 /// Checks what becomes of the one place that there is.
