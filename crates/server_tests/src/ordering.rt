@@ -24,7 +24,7 @@ const AT_ONCE: usize = 20;
 const TARGETS: usize = 256;
 
 /// In how many calls at most they do so.
-const CALLS: usize = 3;
+const TRIES: usize = 3;
 
 /// How many of them do so before their ACKs are waited for.
 const ROUND: usize = 16;
@@ -452,7 +452,7 @@ fn decline_all<R: Net + Wait>(
     let mut agent = Agent::new(rt, 47_352, 47_351)?;
     agent.waits_for(printed, b"listening 127.0.0.1 47351\n");
     let mut all_rang = false;
-    for call in 0..CALLS {
+    for call in 0..TRIES {
         if !all_rang {
             let mut targets = Declined::new(agent, alloc, call);
             all_rang = targets.play(alloc) == Some(TARGETS);

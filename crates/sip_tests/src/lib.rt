@@ -1,4 +1,4 @@
-//! Tests of the public calls of `sip_lex`, `sip_uri`, `sip_text`, `sip_via`, `sip_route`, `sip_build`, `sip_message`, `sip_txn` and
+//! Tests of the public calls of `sip_lex`, `sip_uri`, `sip_text`, `sip_via`, `sip_route`, `sip_build`, `sip_builders`, `sip_branch`, `sip_txn` and
 //! `sip_framing`, in files and folders named for what is tested. They stand apart from these crates so that none of them is proved twice.
 #![tactic(auto)]
 

@@ -4,7 +4,7 @@ use crate::messages::{SOURCE, request_with_via};
 use crate::rows::holds_in_row;
 use sip_builders::reply_hop;
 use sip_uri::{Hop, Transport};
-use sip_via::{TopVia, Via, add_source, read_top, reply_hop_of};
+use sip_via::{Sender, TopVia, Via, add_source, read_top, reply_hop_of};
 use std::alloc::Global;
 
 /// A Via line, how its request came, and where a response goes from there: the port and the transport.
@@ -154,6 +154,14 @@ fn what_was_read_tells_the_reply(rt: HostRuntime) {
     }
 }
 
+/// Whether a sender was read, and it has this host.
+fn has_host(sender: Option<Sender<'_>>, host: &[u8]) -> bool {
+    match sender {
+        Some(sender) => sender.host == host,
+        None => false,
+    }
+}
+
 /// Whether the top Via value of the request with this line is read with that host, has the cookie, and sends a response over UDP there.
 fn reads_top(alloc: Global, via: &[u8], host: &[u8], port: u16) -> bool {
     let Some(request) = request_with_via(alloc, via) else {
@@ -161,12 +169,12 @@ fn reads_top(alloc: Global, via: &[u8], host: &[u8], port: u16) -> bool {
     };
     let source = at_source(SOURCE.port, Transport::Udp);
     match read_top(&alloc, &request, source) {
-        Ok((top, Some(sender))) => {
+        Ok((top, sender)) => {
             top.has_cookie()
                 && top.reply_hop(source) == at_source(port, Transport::Udp)
-                && sender.host == host
+                && has_host(sender, host)
         }
-        _ => false,
+        Err(_) => false,
     }
 }
 
