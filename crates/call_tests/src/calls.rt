@@ -416,10 +416,11 @@ fn prepared_read(alloc: Global, setup: &Setup<Global>) -> Option<PendingCall> {
     if !is_openable(&invite) {
         return None;
     }
-    let Ok(top) = TopVia::of(&alloc, &invite, SOURCE) else {
+    let opening = opening_of(alloc, invite);
+    let Ok(top) = TopVia::of(&alloc, &opening.request, opening.source) else {
         return None;
     };
-    match PendingCall::new_read(setup, opening_of(alloc, invite), &top) {
+    match PendingCall::new_read(setup, opening, &top) {
         Ok(prepared) => Some(prepared),
         Err(_) => None,
     }
@@ -441,10 +442,11 @@ fn opens_as_prepared(alloc: Global, setup: &Setup<Global>, invite: Message<Globa
     if !is_openable(&invite) {
         return false;
     }
-    let Ok(top) = TopVia::of(&alloc, &invite, SOURCE) else {
+    let opening = opening_of(alloc, invite);
+    let Ok(top) = TopVia::of(&alloc, &opening.request, opening.source) else {
         return false;
     };
-    let Ok(prepared) = prepare_read(setup, opening_of(alloc, invite), &top) else {
+    let Ok(prepared) = prepare_read(setup, opening, &top) else {
         return false;
     };
     let named = prepared.uri().user() == Some(b"bob".as_slice())
