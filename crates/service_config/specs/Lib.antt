@@ -7,5 +7,4 @@ pub mod RealmView
 pub mod ServiceForm
 pub mod Settings
 pub mod UserLine
-pub mod Users
 pub mod inner

@@ -136,3 +136,17 @@ with_line settings (TrustLine net) = Some (record settings { nets = settings.net
 with_line settings (GatewayLine q uri) = option_map (λ gateways. record settings { gateways = gateways }) (with_gateway settings.gateways q uri)
 with_line settings (LocationLine user q uri seconds) = with_location settings user q uri seconds
 with_line settings (CommentLine text) = Some settings
+
+-- ---- the setup of a proxy that has a realm
+
+-- credentials for the realm do not go on with a request (section 22.3), and the requests within a dialog come this way, too (section 16.6
+-- step 4)
+abbrev pub in_realm : Option (List ℕ) → Setup → Setup
+in_realm None setup = setup
+in_realm (Some name) setup = record setup { realm = Some name; records = true }
+
+abbrev pub realm_name : Realm → List ℕ
+realm_name realm = realm.text
+
+abbrev pub of_own_realm : Settings → Settings
+of_own_realm settings = record settings { setup = in_realm (option_map realm_name settings.realm) settings.setup }

@@ -28,4 +28,4 @@ pub use password_line::{UserLineFault, user_line};
 pub use realm::Realm;
 pub use service_form::{ServiceForm, ServiceMalformed, service_form_at};
 pub use settings::ServiceSettings;
-pub use users_fault::{UsersFault, needs_users};
+pub use users_fault::UsersFault;

@@ -3,7 +3,7 @@ ghost use Rattle.std.specs.Prelude.{◌≡◌, IfErr, IfOk, Ok, true};
 ghost use Rattle.std.specs.Option.{option_map};
 ghost use Rattle.service_config.specs.Configuration.{IsServiceConfiguration};
 ghost use Rattle.service_config.specs.Settings as spec;
-ghost use Rattle.service_config.specs.Settings.{is_in_nets, is_inside, is_of_gateway, is_trusted};
+ghost use Rattle.service_config.specs.Settings.{in_realm, is_in_nets, is_inside, is_of_gateway, is_trusted, of_own_realm, realm_name};
 ghost use Rattle.service_config.specs.RealmView.{realm_of};
 ghost use Rattle.service_config.specs.ReadView.{GivesSettings, IsFaultOf};
 
@@ -14,8 +14,18 @@ use crate::hosts::Hosts;
 use crate::net::{LOOPBACK, Net, address_number, any_has};
 use crate::realm::{OwnRealm, Realm};
 use proxy_config::{Setup, SetupFault};
-use std::alloc::{Allocator, Global};
+use std::alloc::{AllocError, Allocator, Global};
 use std::marker::Model;
+
+/// A setup with the realm of this name, if there is one, and then with a Record-Route line in each request that opens a dialog.
+fn in_realm<A: Allocator>(setup: Setup<A>, name: Option<Vec<u8, A>>) -> Setup<A>
+    ensures { result ≡ in_realm (option_map (λ n. n.items) name) setup }
+{
+    match name {
+        None => setup,
+        Some(name) => setup.of_realm(name).recording(),
+    }
+}
 
 /// What a service is set up with: the setup of its proxy, whom it serves, and by which gateways the world is reached.
 #[derive(Drop)]
@@ -171,6 +181,33 @@ impl<A: Allocator> ServiceSettings<A> {
     {
         self.setup = self.setup.giving_reasons();
         self
+    }
+}
+
+impl<A: Allocator> ServiceSettings<A> {
+    /// The name of the realm, if there is one.
+    fn realm_name(&self, alloc: A) -> Result<Option<Vec<u8, A>>, AllocError>
+        ensures { IfOk result (λ name. option_map (λ n. n.items) name ≡ option_map realm_name self.now.realm) }
+    {
+        match &self.realm {
+            None => Ok(None),
+            Some(realm) => Ok(Some(Vec::from_slice(alloc, realm.lent().text)?)),
+        }
+    }
+
+    /// The same settings, with the setup of a proxy that has their realm, if they have one: credentials for it do not go on with a request
+    /// (RFC 3261 section 22.3), and a request that opens a dialog has a Record-Route line, so that those within the dialog come this way,
+    /// too (section 16.6 step 4).
+    ///
+    /// # Errors
+    ///
+    /// Only where the allocator refuses.
+    pub fn of_own_realm(mut self, alloc: A) -> Result<ServiceSettings<A>, AllocError>
+        ensures { IfOk result (λ settings. settings ≡ of_own_realm self) }
+    {
+        let name = self.realm_name(alloc)?;
+        self.setup = in_realm(self.setup, name);
+        Ok(self)
     }
 }
 

@@ -4,7 +4,7 @@ use service_config::{Expirations, Gateway, Net, Realm, ServiceSettings};
 use sip_digest::Algorithms;
 use sip_uri::Hop;
 use sip_via::Own;
-use std::alloc::Global;
+use std::alloc::{AllocError, Global};
 use std::process::Abort;
 
 /// A configuration with each line.
@@ -169,4 +169,23 @@ fn is_of_a_service(alloc: Global) -> bool {
 #[test]
 fn settings_become_those_of_a_service(rt: HostRuntime) {
     holds(&rt, is_of_a_service(rt.alloc()), "the setup of a service");
+}
+
+/// Whether a service's setup has the realm of its settings, and stays on the path of dialogs.
+fn is_of_own_realm(alloc: Global) -> bool {
+    let Some(settings) = settings_of(alloc, TEXT) else {
+        return false;
+    };
+    match settings.of_own_realm(alloc) {
+        Ok(settings) => {
+            let setup = settings.setup();
+            setup.realm() == Some(b"example.com".as_slice()) && setup.records()
+        }
+        Err(AllocError) => false,
+    }
+}
+
+#[test]
+fn a_setup_has_the_realm_of_its_settings(rt: HostRuntime) {
+    holds(&rt, is_of_own_realm(rt.alloc()), "the setup of a realm");
 }

@@ -1,24 +1,7 @@
 //! The list of users that goes with a realm, and the line of a user.
 use crate::holds::{holds, holds_of};
-use service_config::{UserLineFault, UsersFault, needs_users, user_line};
-use sip_digest::UserFault;
+use service_config::{UserLineFault, UsersFault, user_line};
 use std::alloc::{AllocError, Global};
-
-#[test]
-fn a_realm_needs_users_and_users_a_realm(rt: HostRuntime) {
-    holds(&rt, needs_users(true, true) == Ok(()), "both");
-    holds(&rt, needs_users(false, false) == Ok(()), "neither");
-    holds(
-        &rt,
-        needs_users(true, false) == Err(UsersFault::NoUsers),
-        "a realm alone",
-    );
-    holds(
-        &rt,
-        needs_users(false, true) == Err(UsersFault::NoRealm),
-        "users alone",
-    );
-}
 
 fn words_of(alloc: Global, fault: UsersFault) -> Result<String, AllocError> {
     format!(in alloc; "{fault}")
@@ -32,8 +15,9 @@ fn has_words(alloc: Global, fault: UsersFault, words: &str) -> bool {
 }
 
 /// Why users cannot be had, and the words of each.
-const WORDS: [(UsersFault, &str); 5] = [
+const WORDS: [(UsersFault, &str); 6] = [
     (UsersFault::Unreadable, "the users cannot be read"),
+    (UsersFault::TooLong, "the users are too long"),
     (UsersFault::Line(7), "users, line 7: malformed"),
     (
         UsersFault::NoUsers,
@@ -51,16 +35,6 @@ fn each_fault_has_words(rt: HostRuntime) {
     for (fault, words) in WORDS {
         holds(&rt, has_words(rt.alloc(), fault, words), words);
     }
-    holds(
-        &rt,
-        UsersFault::from(UserFault::Line(3)) == UsersFault::Line(3),
-        "a line of the list",
-    );
-    holds(
-        &rt,
-        UsersFault::from(UserFault::NoMemory) == UsersFault::NoMemory,
-        "memory for the list",
-    );
 }
 
 /// The line of bob of example.com with the password `secret`, by `printf %s bob:example.com:secret | md5sum` and `sha256sum`.
