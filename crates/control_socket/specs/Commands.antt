@@ -1,8 +1,9 @@
 -- What a line at the control socket says.
-use Rattle.std.specs.Prelude.{◌≡◌, ◌↔◌, ◌++◌, ◌⊎◌, ◌-◌, ◌^◌, ℕ, Some, List, codes}
+use Rattle.std.specs.Prelude.{◌≡◌, ◌↔◌, ◌++◌, ◌⊎◌, ◌-◌, ◌^◌, ℕ, Option, Some, None, List, [], codes}
+use Rattle.sip_lex.specs.Cut.{cut, is}
 use Rattle.sip_lex.specs.Number.{plain_number_within}
 use Rattle.control_socket.specs.declared.command.ControlCommand.{ControlCommand}
-use Rattle.control_socket.specs.declared.command.ControlCommand.TheVariants.{Stop, Reload, Stats, Calls, Call, Metrics}
+use Rattle.control_socket.specs.declared.command.ControlCommand.TheVariants.{Stop, Reload, Stats, Calls, Call, Bindings, BindingsOf, Forget, Refused, Metrics}
 
 -- a number within this limit stands behind this text
 abbrev pub IsNumbered : List ℕ → ℕ → List ℕ → ℕ → Type 0
@@ -24,6 +25,18 @@ IsCalls line from = ((line ≡ codes "calls") × (from ≡ 0)) ⊎ IsCallsFrom l
 abbrev pub IsCall : List ℕ → ℕ → Type 0
 IsCall line number = IsNumbered (codes "call ") (2 ^ 64 - 1) line number
 
+-- a text stands behind this word, with the space behind it
+abbrev pub IsNamed : (word : List ℕ) → List ℕ → Type 0
+IsNamed word line = (name : List ℕ) × (line ≡ word ++ name)
+
+abbrev pub or_empty : Option (List ℕ) → List ℕ
+or_empty (Some text) = text
+or_empty None = []
+
+-- what stands behind the first space
+abbrev pub argument_of : List ℕ → List ℕ
+argument_of line = or_empty (cut (is 32) line).1
+
 -- a GET of HTTP
 abbrev pub IsGet : List ℕ → Type 0
 IsGet line = (rest : List ℕ) × (line ≡ codes "GET " ++ rest)
@@ -32,6 +45,10 @@ IsGet line = (rest : List ℕ) × (line ≡ codes "GET " ++ rest)
 pub record Says (line : List ℕ) (command : ControlCommand) : Type 0 where
   pub reload : (command ≡ Reload) ↔ (line ≡ codes "reload")
   pub stats : (command ≡ Stats) ↔ (line ≡ codes "stats")
+  pub bindings : (command ≡ Bindings) ↔ (line ≡ codes "bindings")
+  pub bindings_of : (command ≡ BindingsOf) ↔ IsNamed (codes "bindings ") line
+  pub forget : (command ≡ Forget) ↔ IsNamed (codes "forget ") line
+  pub refused : (command ≡ Refused) ↔ (line ≡ codes "refused")
   pub get : (command ≡ Metrics) ↔ IsGet line
   pub stop : (seconds : ℕ) → (command ≡ Stop seconds) ↔ IsStop line seconds
   pub calls : (from : ℕ) → (command ≡ Calls from) ↔ IsCalls line from

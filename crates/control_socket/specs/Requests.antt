@@ -2,7 +2,7 @@
 use Rattle.std.specs.Prelude.{◌≡◌, ◌==◌, ◌&&◌, ◌||◌, ◌++◌, ◌-◌, ◌≤◌, ℕ, Bool, true, false, List, [], ◌∷◌, Option, Some, None, if◌then◌else◌, bytes_eq, drop, length, nat_le, nat_lt, position, take}
 use Rattle.control_socket.specs.declared.command.ControlCommand.{ControlCommand}
 use Rattle.control_socket.specs.declared.command.ControlCommand.TheVariants.{Unknown}
-use Rattle.control_socket.specs.Commands.{Says}
+use Rattle.control_socket.specs.Commands.{Says, argument_of}
 
 -- the front of what was written, and whether its sender has closed its side
 pub record RequestState : Type 0 where
@@ -28,6 +28,11 @@ line_at None request = if request.closed && nat_le (length request.written) 256 
 -- the line that was written, if it is whole
 abbrev pub line_of : RequestState → Option (List ℕ)
 line_of request = line_at (line_feed_of request.written) request
+
+-- what stands behind the word of the line, if it is whole
+abbrev pub argument_in : Option (List ℕ) → List ℕ
+argument_in (Some line) = argument_of line
+argument_in None = []
 
 -- a line that is not whole when its time is over, or is longer than it may be, says nothing that is known
 abbrev pub IsSaid : Option (List ℕ) → RequestState → (late : Bool) → ControlCommand → Type 0

@@ -1,7 +1,7 @@
 //! One client of the control socket, as far as it can be said without a socket.
 ghost use Rattle.std.specs.Prelude.{◌≡◌, ℕ, Bool, false, true, List, [], ◌++◌, None, Some, IfNone, IfSome, IsTrue, ◌↔◌, drop, option_map};
 ghost use Rattle.control_socket.specs.Clients.{IsRead, IsTurn, is_over, left_of, rest_of, turn_behind_answer};
-ghost use Rattle.control_socket.specs.Requests.{fed};
+ghost use Rattle.control_socket.specs.Requests.{argument_in, fed, line_of};
 ghost use Rattle.control_socket.specs.declared.client.ClientTurn.{ClientTurn};
 
 use crate::answer::ClientAnswer;
@@ -93,6 +93,13 @@ impl Client {
         ensures { self.new ≡ record { request = record { written = self.old.request.written; closed = true }; answer = self.old.answer; deadline = self.old.deadline } }
     {
         self.request.close();
+    }
+
+    /// What stands behind the word of its line; nothing where the line is not whole.
+    pub fn argument(&self) -> &[u8]
+        ensures { result.now ≡ argument_in (line_of self.now.request) }
+    {
+        self.request.argument()
     }
 
     /// It is answered so, and has until this moment to read that; where there is none it then waits for the end.

@@ -36,6 +36,35 @@ pub trait ControlHandler {
     /// Want of memory for the text.
     fn call(&self, number: u64) -> Result<Vec<u8>, io::Error>;
 
+    /// A line for each contact that is bound to a user, of as many users as one answer tells of, and a last line that says whether there may be
+    /// more.
+    ///
+    /// # Errors
+    ///
+    /// Want of memory for the text.
+    fn bindings(&self) -> Result<Vec<u8>, io::Error>;
+
+    /// A line for each contact that is bound to this user; where there is none, a line that says so.
+    ///
+    /// # Errors
+    ///
+    /// Want of memory for the text.
+    fn bindings_of(&self, user: &[u8]) -> Result<Vec<u8>, io::Error>;
+
+    /// Forgets what is bound to this user, and says in a line how many contacts that were, or why it is not forgotten.
+    ///
+    /// # Errors
+    ///
+    /// Want of memory; the line may be missing where all is forgotten.
+    fn forget(&self, user: &[u8]) -> Result<Vec<u8>, io::Error>;
+
+    /// A line for each of the requests that were refused last, and a last line.
+    ///
+    /// # Errors
+    ///
+    /// Want of memory for the text.
+    fn refused(&self) -> Result<Vec<u8>, io::Error>;
+
     /// Whether it has ended.
     fn has_ended(&self) -> bool;
 }

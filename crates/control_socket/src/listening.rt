@@ -73,50 +73,70 @@ impl<'a, R: Clock, C: ControlHandler> ControlClients<'a, R, C> {
         thread::sleep(self.rt, Duration::from_millis(REST));
     }
 
-    /// Does what a client asks, and answers it. One that asks for the end waits for it, if there is room.
+    /// What answers a command that ends nothing, behind whose word this stands.
     ///
     /// # Errors
     ///
     /// Want of memory for the answer.
-    fn obey(&self, command: ControlCommand, has_room: bool) -> io::Result<ControlReply> {
-        let answer = match command {
-            ControlCommand::Stop(seconds) => {
-                self.controlled.stop(seconds);
-                let answer = if has_room {
-                    ClientAnswer::fixed(self.alloc, b"stopping\n")
-                } else {
-                    ClientAnswer::fixed(
-                        self.alloc,
-                        b"busy: it stops, and too many wait for that already\n",
-                    )
-                };
-                return Ok(ControlReply {
-                    answer,
-                    waits: has_room,
-                });
+    fn told(&self, command: ControlCommand, argument: &[u8]) -> io::Result<ClientAnswer> {
+        let controlled = self.controlled;
+        let text = match command {
+            ControlCommand::Reload => controlled.reload()?.into_bytes(),
+            ControlCommand::Stats => controlled.stats()?.into_bytes(),
+            ControlCommand::Calls(from) => controlled.calls(from)?,
+            ControlCommand::Call(number) => controlled.call(number)?,
+            ControlCommand::Bindings => controlled.bindings()?,
+            ControlCommand::BindingsOf => controlled.bindings_of(argument)?,
+            ControlCommand::Forget => controlled.forget(argument)?,
+            ControlCommand::Refused => controlled.refused()?,
+            ControlCommand::Metrics => {
+                return Ok(ClientAnswer::new(HEAD, controlled.stats()?.into_bytes()));
             }
-            ControlCommand::Reload => ClientAnswer::new(
-                b"",
-                self.controlled.reload()?.into_bytes(),
-            ),
-            ControlCommand::Stats => ClientAnswer::new(b"", self.controlled.stats()?.into_bytes()),
-            ControlCommand::Calls(from) => ClientAnswer::new(b"", self.controlled.calls(from)?),
-            ControlCommand::Call(number) => ClientAnswer::new(b"", self.controlled.call(number)?),
-            ControlCommand::Metrics => ClientAnswer::new(
-                HEAD,
-                self.controlled.stats()?.into_bytes(),
-            ),
-            ControlCommand::Unknown => ClientAnswer::fixed(self.alloc, b"unknown\n"),
+            ControlCommand::Stop(_) | ControlCommand::Unknown => {
+                return Ok(ClientAnswer::fixed(self.alloc, b"unknown\n"));
+            }
         };
-        Ok(ControlReply {
-            answer,
-            waits: false,
-        })
+        Ok(ClientAnswer::new(b"", text))
+    }
+
+    /// Begins the end, which comes within so many seconds. Who asks for it waits for it, if there is room.
+    fn stop(&self, seconds: u64, has_room: bool) -> ControlReply {
+        self.controlled.stop(seconds);
+        let text: &'static [u8] = if has_room {
+            b"stopping\n"
+        } else {
+            b"busy: it stops, and too many wait for that already\n"
+        };
+        ControlReply {
+            answer: ClientAnswer::fixed(self.alloc, text),
+            waits: has_room,
+        }
+    }
+
+    /// Does what a client asks, behind whose word this stands, and answers it. One that asks for the end waits for it, if there is room.
+    ///
+    /// # Errors
+    ///
+    /// Want of memory for the answer.
+    fn obey(
+        &self,
+        command: ControlCommand,
+        argument: &[u8],
+        has_room: bool,
+    ) -> io::Result<ControlReply> {
+        match command {
+            ControlCommand::Stop(seconds) => Ok(self.stop(seconds, has_room)),
+            command => Ok(ControlReply {
+                answer: self.told(command, argument)?,
+                waits: false,
+            }),
+        }
     }
 
     /// Answers what a client asks, and says whether its connection stands: where there is no memory for the answer it is closed.
     fn answer(&self, connection: &mut Connection, command: ControlCommand, has_room: bool) -> bool {
-        let Ok(ControlReply { answer, waits }) = self.obey(command, has_room) else {
+        let replied = self.obey(command, connection.client().argument(), has_room);
+        let Ok(ControlReply { answer, waits }) = replied else {
             return false;
         };
         let deadline = if waits { None } else { Some(self.deadline()) };

@@ -1,8 +1,8 @@
 //! What a client of the control socket has written.
 ghost use Rattle.std.specs.Prelude.{◌≡◌, ◌++◌, ℕ, Bool, false, true, List, [], None, Some, IfNone, IfSome, take};
-ghost use Rattle.control_socket.specs.Requests.{IsAsked, MayGoOn, fed, line_feed_of, line_of, without_return};
+ghost use Rattle.control_socket.specs.Requests.{IsAsked, MayGoOn, argument_in, fed, line_feed_of, line_of, without_return};
 
-use crate::command::{ControlCommand, read_command};
+use crate::command::{ControlCommand, argument_of, read_command};
 use arrayvec::ArrayVec;
 use std::marker::Model;
 
@@ -112,6 +112,16 @@ impl ControlRequest {
             Some(line) => Some(read_command(line)),
             None if is_late || self.written.len() > MOST_BYTES => Some(ControlCommand::Unknown),
             None => None,
+        }
+    }
+
+    /// What stands behind the word of the line; nothing where the line is not whole.
+    pub fn argument(&self) -> &[u8]
+        ensures { result.now ≡ argument_in (line_of self.now) }
+    {
+        match self.line() {
+            Some(line) => argument_of(line),
+            None => b"",
         }
     }
 }

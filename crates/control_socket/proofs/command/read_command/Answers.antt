@@ -7,6 +7,6 @@ pub returns-clause-calls : goal.returns-clause-calls
 returns-clause-calls c = λ from. (
   (λ e. inr ((c.read_long.ensures.calls from).0 e)),
   (λ is. ⊎_elim
-      (λ both. absurd (false≢true (sym c.if-eq-3.false ∙ c.eq-3.ensures ∙ (bytes_eq-Decides c.args.line.now c.as_slice-3.result.now).1 (both.0 ∙ sym c.as_slice-3.ensures))))
+      (λ both. absurd (false≢true (sym c.if-eq-5.false ∙ c.eq-5.ensures ∙ (bytes_eq-Decides c.args.line.now c.as_slice-5.result.now).1 (both.0 ∙ sym c.as_slice-5.ensures))))
       (λ behind. (c.read_long.ensures.calls from).1 behind) is),
 )
