@@ -51,12 +51,13 @@ fn append_bytes<A: Allocator>(out: &mut Vec<u8, A>, text: &[u8]) -> Result<(), A
     Ok(())
 }
 
-/// Appends a text of the caller's, cut where it is long: each byte that is no visible ASCII, as a space or the end of a line, is a dot, so that
-/// the text is one word.
-pub(crate) fn append_shown<A: Allocator>(
-    out: &mut Vec<u8, A>,
-    text: &[u8],
-) -> Result<(), AllocError>
+/// Appends a text of a sender's, cut where it is longer than 256 bytes: each byte that is no visible ASCII, as a space or the end of a line, is
+/// a dot, so that the text is one word.
+///
+/// # Errors
+///
+/// Only where the growth of `out` is refused; some of the text may be there then.
+pub fn append_shown<A: Allocator>(out: &mut Vec<u8, A>, text: &[u8]) -> Result<(), AllocError>
     ensures { OnOk result (out.new.items ≡ out.old.items ++ shown text.now) }
 {
     append_bytes(out, front_of(text))?;

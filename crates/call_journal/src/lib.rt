@@ -11,7 +11,7 @@ mod standing;
 mod why;
 
 pub use block::append_call;
-pub use head::CallRecord;
+pub use head::{CallRecord, append_shown};
 pub use law::{failed_calls_are_listed_right, heads_are_lines, reasons_are_right};
 pub use notes::{Note, NotedEvent};
 pub use shown::{BranchTimes, CallShown, append_branch_line, append_call_line};

@@ -4,6 +4,7 @@ use crate::count::gauge;
 use crate::datagram_counts::DatagramCounts;
 use crate::latencies::HandlingTimes;
 use crate::metric::append_metrics;
+use crate::sender_counts::SenderCounts;
 use std::alloc::{AllocError, Global};
 
 /// What a proxy counts. Who counts does nothing but additions.
@@ -11,6 +12,7 @@ use std::alloc::{AllocError, Global};
 pub struct Counts {
     pub calls: CallCounts,
     pub datagrams: DatagramCounts,
+    pub senders: SenderCounts,
     pub latencies: HandlingTimes,
 }
 
@@ -21,6 +23,8 @@ pub struct Gauges {
     pub seconds: u64,
     /// How many calls it keeps.
     pub held: u64,
+    /// How many contacts are bound to its users.
+    pub bindings: u64,
     /// How many bytes of memory its process has, if the system says so.
     pub resident: Option<u64>,
 }
@@ -39,6 +43,7 @@ impl Counts {
         Counts {
             calls: CallCounts::new(),
             datagrams: DatagramCounts::new(),
+            senders: SenderCounts::new(),
             latencies: HandlingTimes::new(),
         }
     }
@@ -53,12 +58,14 @@ impl Counts {
         let metrics = [
             gauge(b"forkproxy_uptime_seconds", gauges.seconds),
             gauge(b"forkproxy_calls", gauges.held),
+            gauge(b"forkproxy_bindings", gauges.bindings),
             gauge(b"forkproxy_calls_open", self.calls.open()),
         ];
         append_metrics(&mut text, &metrics)?;
         append_resident(&mut text, gauges.resident)?;
         self.calls.append(&mut text)?;
         self.datagrams.append(&mut text)?;
+        self.senders.append(&mut text)?;
         self.latencies.append(&mut text)?;
         Ok(text)
     }

@@ -14,6 +14,7 @@ mod metric;
 mod page;
 mod page_sockets;
 mod scraper;
+mod sender_counts;
 
 pub use answering::{MetricsSource, answer_scrapers};
 pub use call_counts::{CallCounts, FailedCounts};
@@ -26,3 +27,4 @@ pub use latencies::HandlingTimes;
 pub use metric::{Metric, MetricKind, append_metrics};
 pub use page::{Page, PageKind, page_kind};
 pub use page_sockets::PageSockets;
+pub use sender_counts::{RegistrationCounts, SenderCounts};
