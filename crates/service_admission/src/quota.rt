@@ -6,12 +6,7 @@ ghost use Rattle.service_admission.specs.Quota.{limit};
 
 use crate::lifetime::Lifetime;
 use crate::places::CallQuota;
-use authentication::OwnAnswer;
-use fork_call::Setup;
-use proxy_dispatch::{Admission, Decision, Opener};
-use sip_text::Message;
-use sip_uri::Hop;
-use std::alloc::{AllocError, Allocator};
+use proxy_dispatch::Opener;
 use std::sync::atomic::{AtomicU64, Ordering};
 use std::sync::{Mutex, Wait};
 
@@ -107,40 +102,14 @@ pub struct QuotaAt<'a> {
     pub now: u64,
 }
 
-impl<A: Allocator + Clone> Admission<A> for QuotaAt<'_> {
-    fn admits<R: Wait>(&self, rt: &R, opener: Opener) -> bool {
+impl QuotaAt<'_> {
+    /// Keeps a place for what such a request may open, and says whether there is one.
+    pub fn admits<R: Wait>(&self, rt: &R, opener: Opener) -> bool {
         self.quota.keep(rt, self.lifetime, opener, self.now)
     }
 
-    fn release<R: Wait>(&self, rt: &R) {
+    /// Gives the place of a request back that opened no call.
+    pub fn release<R: Wait>(&self, rt: &R) {
         self.quota.release(rt);
-    }
-
-    fn decides<R: Wait>(
-        &self,
-        _rt: &R,
-        _alloc: &A,
-        _setup: &Setup<A>,
-        _request: &Message<A>,
-        _source: Hop,
-        _now: u64,
-    ) -> Result<Decision<A>, AllocError> {
-        Ok(Decision::Opens)
-    }
-
-    fn has_registrar(&self) -> bool {
-        false
-    }
-
-    fn registers<R: Wait>(
-        &self,
-        _rt: &R,
-        _alloc: &A,
-        _setup: &Setup<A>,
-        _request: &Message<A>,
-        _source: Hop,
-        _now: u64,
-    ) -> Result<Option<OwnAnswer<A>>, AllocError> {
-        Ok(None)
     }
 }
