@@ -1,0 +1,204 @@
+//! What a service decides of a request (RFC 3261 sections 10, 16.3 and 22.3).
+use crate::holds::holds;
+use crate::texts::{bindings_of, request_from, settings_from};
+use binding_table::BindingTable;
+use bindings::UserBindings;
+use fork_call::Setup;
+use proxy_dispatch::Decision;
+use service_decisions::{Decided, ServiceView};
+use sip_digest::{Algorithms, UserList};
+use sip_uri::{Hop, Transport};
+use std::alloc::Global;
+use std::sync::Wait;
+
+/// A service with a realm, which serves strangers or does not.
+const REALM: &[u8] =
+    b"own 192.0.2.9 5060\ndomain example.com\nrealm example.com\ntrust 192.0.2.128/25\ngateway 1000 sip:192.0.2.20\n";
+
+const OPEN: &[u8] =
+    b"own 192.0.2.9 5060\ndomain example.com\nrealm example.com\nstrangers\ntrust 192.0.2.128/25\ngateway 1000 sip:192.0.2.20\n";
+
+/// Its users: bob and carol.
+const USERS: &[u8] =
+    b"bob e4d909c290d0fb1ca068ffaddf22cbd0 -\ncarol e4d909c290d0fb1ca068ffaddf22cbd0 -\n";
+
+/// Who may send as he likes, a gateway, and a stranger.
+const INSIDE: Hop = Hop {
+    addr: [192, 0, 2, 130],
+    port: 5060,
+    transport: Transport::Udp,
+};
+
+const GATEWAY: Hop = Hop {
+    addr: [192, 0, 2, 20],
+    port: 5060,
+    transport: Transport::Udp,
+};
+
+const OUTSIDE: Hop = Hop {
+    addr: [198, 51, 100, 7],
+    port: 41_000,
+    transport: Transport::Udp,
+};
+
+/// What is decided, as far as it is told: a setup with so many targets, whether it has a token; or a status.
+#[derive(Clone, Copy, PartialEq, Eq)]
+enum Verdict {
+    Stands,
+    Targets(usize, bool),
+    Status(u16),
+    Leaves,
+    Nothing,
+}
+
+fn verdict_of(decided: &Decided<Global>) -> Verdict {
+    match &decided.decision {
+        Decision::Opens => Verdict::Stands,
+        Decision::OpensBy(setup) => {
+            Verdict::Targets(setup.locations().len(), setup.token().is_some())
+        }
+        Decision::Answers(answer) => Verdict::Status(answer.status().code()),
+        Decision::Leaves => Verdict::Leaves,
+    }
+}
+
+/// A table in which carol has two bindings.
+fn table_of<R: Wait>(rt: &R, alloc: Global) -> Option<BindingTable<UserBindings<Global>, Global>> {
+    let bindings = bindings_of(alloc, &[(OUTSIDE, 2_000), (INSIDE, 2_000)])?;
+    let Ok(table) = BindingTable::new(alloc, 10) else {
+        return None;
+    };
+    match table.insert(rt, b"carol", bindings) {
+        Ok(()) => Some(table),
+        Err(_) => None,
+    }
+}
+
+/// From where a request comes, its start line, its From and its To, and what is decided.
+type Row<'a> = (&'a [u8], Hop, &'a [u8], &'a [u8], &'a [u8], Verdict);
+
+/// What is decided of the request of a row at 1,000 ms.
+fn decides<R: Wait>(rt: &R, alloc: Global, row: &Row<'_>) -> Option<Verdict> {
+    let settings = settings_from(alloc, row.0)?;
+    let table = table_of(rt, alloc)?;
+    let request = request_from(alloc, row.2, row.3, row.4)?;
+    let Ok(users) = UserList::read(alloc, USERS, Algorithms::Md5) else {
+        return None;
+    };
+    let view = ServiceView {
+        settings: &settings,
+        users: Some(&users),
+        secret: &[7; 32],
+        bindings: &table,
+        has_bindings: true,
+        second: 1_764_400_000,
+        moment: 1_000,
+    };
+    let setup: &Setup<Global> = settings.setup();
+    match view.decide(rt, &alloc, setup, &request, row.1) {
+        Ok(decided) => Some(verdict_of(&decided)),
+        Err(_) => Some(Verdict::Nothing),
+    }
+}
+
+const BOB: &[u8] = b"f: <sip:bob@example.com>;tag=1";
+
+const EVE: &[u8] = b"f: <sip:eve@elsewhere.example>;tag=1";
+
+const CAROL: &[u8] = b"t: <sip:carol@example.com>";
+
+const FOR_CAROL: &[u8] = b"INVITE sip:carol@example.com SIP/2.0";
+
+const FOR_BOB: &[u8] = b"INVITE sip:bob@example.com SIP/2.0";
+
+const ABROAD: &[u8] = b"INVITE sip:+15550100@example.com SIP/2.0";
+
+const ELSEWHERE: &[u8] = b"INVITE sip:x@203.0.113.1 SIP/2.0";
+
+const ROWS: [Row<'static>; 12] = [
+    // who is trusted opens all
+    (
+        REALM,
+        INSIDE,
+        FOR_CAROL,
+        EVE,
+        CAROL,
+        Verdict::Targets(2, true),
+    ),
+    (REALM, INSIDE, ABROAD, EVE, CAROL, Verdict::Targets(1, true)),
+    (
+        REALM,
+        INSIDE,
+        ELSEWHERE,
+        EVE,
+        CAROL,
+        Verdict::Targets(0, true),
+    ),
+    // to the gateway itself, and to a user without a binding, there is no target
+    (
+        REALM,
+        GATEWAY,
+        ABROAD,
+        EVE,
+        CAROL,
+        Verdict::Targets(0, true),
+    ),
+    (
+        REALM,
+        INSIDE,
+        FOR_BOB,
+        EVE,
+        CAROL,
+        Verdict::Targets(0, true),
+    ),
+    // who says to be of the domain is asked for a password
+    (REALM, OUTSIDE, ELSEWHERE, BOB, CAROL, Verdict::Status(407)),
+    (REALM, OUTSIDE, FOR_CAROL, BOB, CAROL, Verdict::Status(407)),
+    // strangers
+    (REALM, OUTSIDE, FOR_CAROL, EVE, CAROL, Verdict::Status(403)),
+    (
+        OPEN,
+        OUTSIDE,
+        FOR_CAROL,
+        EVE,
+        CAROL,
+        Verdict::Targets(2, true),
+    ),
+    (OPEN, OUTSIDE, FOR_BOB, EVE, CAROL, Verdict::Status(403)),
+    (OPEN, OUTSIDE, ELSEWHERE, EVE, CAROL, Verdict::Status(403)),
+    (
+        REALM,
+        INSIDE,
+        b"REGISTER sip:example.com SIP/2.0",
+        BOB,
+        CAROL,
+        Verdict::Leaves,
+    ),
+];
+
+#[test]
+fn requests_are_decided(rt: HostRuntime) {
+    for row in ROWS {
+        let decided = decides(&rt, rt.alloc(), &row);
+        holds(&rt, decided == Some(row.5), "what is decided of a request");
+    }
+}
+
+#[test]
+fn without_a_realm_nothing_changes_for_who_is_trusted(rt: HostRuntime) {
+    let text = b"own 192.0.2.9 5060\ndomain example.com\nlocation bob 1000 sip:bob@192.0.2.4\n";
+    let row: Row<'_> = (
+        text,
+        Hop {
+            addr: [127, 0, 0, 1],
+            port: 5070,
+            transport: Transport::Udp,
+        },
+        FOR_BOB,
+        EVE,
+        b"t: <sip:bob@example.com>",
+        Verdict::Stands,
+    );
+    let decided = decides(&rt, rt.alloc(), &row);
+    holds(&rt, decided == Some(row.5), "a user with a location");
+}

@@ -1,0 +1,306 @@
+//! A service as a request finds it.
+ghost use Rattle.std.specs.Prelude.{◌≡◌, List, IfOk, IsTrue};
+ghost use Rattle.std.specs.Option.{option_copied, option_map};
+ghost use Rattle.authentication.specs.declared.decision.Rule.TheVariants as rules;
+ghost use Rattle.authentication.specs.declared.domain.Domain.{Domain};
+ghost use Rattle.authentication.specs.SeenDecision.{seen_admission};
+ghost use Rattle.authentication.specs.SeenRealm.{realm_if_any, seen_realm};
+ghost use Rattle.bindings.specs.Bindings.{Binding, there};
+ghost use Rattle.proxy_dispatch.specs.Admitting as dispatch;
+ghost use Rattle.proxy_dispatch.specs.SeenDecision.{seen_decision};
+ghost use Rattle.service_decisions.specs.SeenPlace.{seen_place};
+ghost use Rattle.service_decisions.specs.Targets.{OfUser, place_of};
+ghost use Rattle.service_decisions.specs.SeenServing.{serving_of};
+ghost use Rattle.service_decisions.specs.Served.{IsDomainOf, IsOpenedBy, IsPlain, IsServed, admission_of, arrival_of, goes_unasked, has_place_at, may_be_abroad, may_go, opened_by, user_at};
+ghost use Rattle.service_decisions.specs.Serving.{realm_at};
+
+use crate::contacts::contacts_of;
+use crate::gateways::may_use_gateways;
+use crate::moment::{has_location, setup_for};
+use crate::place::{Place, place_of};
+use authentication::{
+    Arrival, CallAdmission, Decision as SenderDecision, Domain, RealmSecrets, Rule, decision_of,
+};
+use binding_table::BindingTable;
+use bindings::UserBindings;
+use fork_call::Setup;
+use proxy_config::DialogToken;
+use proxy_dispatch::Decision;
+use service_config::ServiceSettings;
+use sip_digest::UserList;
+use sip_text::Message;
+use sip_uri::Hop;
+use std::alloc::{AllocError, Allocator};
+use std::sync::Wait;
+
+/// What is decided of a request, and, where there is a name, that wrong credentials came for it.
+#[derive(Drop)]
+pub struct Decided<A: Allocator> {
+    pub decision: Decision<A>,
+    pub noted: Option<Vec<u8, A>>,
+}
+
+/// A service as a request finds it: by what it goes, who has a password, what is bound to its users, and when it is.
+#[derive(Drop)]
+pub struct ServiceView<'a, A: Allocator + Clone> {
+    pub settings: &'a ServiceSettings<A>,
+    /// Who has a password, where there is a realm.
+    pub users: Option<&'a UserList<A>>,
+    /// What nonces and the tokens of dialogs are made with.
+    pub secret: &'a [u8; 32],
+    pub bindings: &'a BindingTable<UserBindings<A>, A>,
+    /// Whether anything was ever bound to anybody: else no binding is looked for.
+    pub has_bindings: bool,
+    /// The second since 1970.
+    pub second: u32,
+    /// The millisecond of the clock by which bindings end.
+    pub moment: u64,
+}
+
+/// The user whose bindings count at a place.
+fn user_at<A: Allocator>(place: &Place<A>) -> Option<&[u8]>
+    ensures { option_copied result ≡ user_at (seen_place place.now) }
+{
+    match place {
+        Place::OfUser(user) => Some(user.as_slice()),
+        Place::Beyond(user) => Some(user.as_slice()),
+        Place::Nowhere => None,
+    }
+}
+
+/// Whether a request is opened by where it comes from, or by its dialog.
+fn goes_unasked(rule: Rule) -> bool
+    ensures { result ≡ goes_unasked rule }
+{
+    match rule {
+        Rule::Trusted | Rule::InDialog => true,
+        Rule::Password | Rule::Stranger => false,
+    }
+}
+
+/// Whether a request that is opened by this rule goes on: nobody can be asked for a password by an answer to an ACK, so that one goes on by
+/// where it comes from, or by its dialog, alone.
+fn may_go<A: Allocator>(rule: Rule, request: &Message<A>) -> bool
+    ensures { result ≡ may_go rule request.now }
+{
+    request.method().unwrap_or(b"") != b"ACK".as_slice() || goes_unasked(rule)
+}
+
+impl<'a, A: Allocator + Clone> ServiceView<'a, A> {
+    /// The realm that credentials are asked for, where there is one and there are users.
+    pub(crate) fn realm(&self) -> Option<RealmSecrets<'a, A>>
+        ensures { option_map seen_realm result ≡ realm_at (serving_of self.now) }
+    {
+        match (self.settings.realm(), self.users) {
+            (Some(realm), Some(users)) => {
+                RealmSecrets::new(realm.text, realm.algorithms, users, self.secret)
+            }
+            _ => None,
+        }
+    }
+
+    /// The URIs that are its own.
+    pub(crate) fn domain<'r>(&self, setup: &'r Setup<A>) -> Domain<'r>
+        ensures { IsDomainOf setup.now result }
+    {
+        Domain {
+            name: setup.domain(),
+            own: setup.own(),
+            by_port: setup.by_port(),
+            streams: setup.has_streams(),
+        }
+    }
+
+    /// Whom it serves.
+    fn admission<'r>(
+        &'r self,
+        setup: &'r Setup<A>,
+        realm: Option<&'r RealmSecrets<'r, A>>,
+    ) -> CallAdmission<'r, A>
+        ensures { (domain : Domain) × IsDomainOf setup.now domain × (seen_admission result ≡ record (admission_of (serving_of self.now) domain) { realm = realm_if_any realm.entry }) }
+    {
+        CallAdmission {
+            domain: self.domain(setup),
+            realm,
+            secret: self.secret,
+            serves_strangers: self.settings.serves_strangers(),
+        }
+    }
+
+    /// The bindings of a user that are there.
+    fn held<R: Wait>(&self, rt: &R, user: &[u8]) -> Result<UserBindings<A>, AllocError>
+        ensures { IfOk result (λ copies. (held : List Binding) × (copies ≡ there self.now.moment held)) }
+    {
+        self.bindings.there(rt, user, self.moment)
+    }
+
+    /// Whether each request that is opened is opened by the setup as it stands: nothing is bound, there is no gateway, and no dialog gets a
+    /// token.
+    fn is_plain(&self) -> bool
+        ensures { IsTrue result → IsPlain (serving_of self.now) }
+    {
+        !self.has_bindings && self.settings.gateways().is_empty() && self.token().is_none()
+    }
+
+    /// Whether a user has a location, or a binding that is there.
+    fn has_user<R: Wait>(&self, rt: &R, setup: &Setup<A>, user: &[u8]) -> Result<bool, AllocError>
+        ensures { IfOk result (λ is. (held : List Binding) × (is ≡ has_place_at setup.now (OfUser user.now) self.now.moment held)) }
+    {
+        let held = self.held(rt, user)?;
+        Ok(has_location(setup, user) || !held.is_empty())
+    }
+
+    /// Whether the user that a request is for has a location, or a binding that is there.
+    fn has_place<R: Wait>(
+        &self,
+        rt: &R,
+        alloc: &A,
+        setup: &Setup<A>,
+        request: &Message<A>,
+    ) -> Result<bool, AllocError>
+        ensures { IfOk result (λ is. (held : List Binding) × (is ≡ has_place_at setup.now (place_of setup.now rules.Stranger request.now) self.now.moment held)) }
+    {
+        match place_of(alloc.clone()?, setup, Rule::Stranger, request)? {
+            Place::OfUser(user) => self.has_user(rt, setup, &user),
+            Place::Beyond(_) => Ok(false),
+            Place::Nowhere => Ok(false),
+        }
+    }
+
+    /// Where a request comes from: whether its user has a place counts where strangers are served alone, and is looked at there alone.
+    fn arrival<R: Wait>(
+        &self,
+        rt: &R,
+        alloc: &A,
+        setup: &Setup<A>,
+        request: &Message<A>,
+        source: Hop,
+    ) -> Result<Arrival, AllocError>
+        ensures { IfOk result (λ arrival. (held : List Binding) × (arrival ≡ arrival_of (serving_of self.now) setup.now request.now source held)) }
+    {
+        let trusted = self.settings.is_trusted(source.addr);
+        let has_place = !trusted
+            && self.settings.serves_strangers()
+            && self.has_place(rt, alloc, setup, request)?;
+        Ok(Arrival {
+            source,
+            second: self.second,
+            trusted,
+            refusal: None,
+            has_place,
+        })
+    }
+
+    /// Whether a place may be reached by gateways: its user has no password here.
+    fn may_be_abroad(&self, place: &Place<A>) -> bool
+        ensures { result ≡ may_be_abroad (serving_of self.now) (seen_place place.now) }
+    {
+        match (place, self.users) {
+            (Place::OfUser(_), None) => true,
+            (Place::OfUser(user), Some(users)) => users.secrets(user).is_none(),
+            _ => false,
+        }
+    }
+
+    /// What the token of a dialog is made with that a request opens, where there is a realm.
+    fn token(&self) -> Option<DialogToken>
+        ensures { result ≡ (serving_of self.now).token }
+    {
+        match self.settings.realm() {
+            None => None,
+            Some(_) => Some(DialogToken {
+                secret: *self.secret,
+                second: self.second,
+            }),
+        }
+    }
+
+    /// What becomes of a request that is opened by this rule.
+    fn opened<R: Wait>(
+        &self,
+        rt: &R,
+        alloc: &A,
+        setup: &Setup<A>,
+        rule: Rule,
+        request: &Message<A>,
+        source: Hop,
+    ) -> Result<Decision<A>, AllocError>
+        ensures { IfOk result (λ decision. (held : List Binding) × (seen_decision setup.now decision ≡ dispatch.Opens (opened_by (serving_of self.now) setup.now rule request.now source held))) }
+    {
+        if self.is_plain() {
+            return Ok(Decision::Opens);
+        }
+        let place = place_of(alloc.clone()?, setup, rule, request)?;
+        let held = self.held(rt, user_at(&place).unwrap_or(b""))?;
+        let contacts = contacts_of(alloc.clone()?, &held, self.moment)?;
+        let by_gateways = may_use_gateways(self.settings, rule, source)
+            && self.may_be_abroad(&place);
+        let moment = setup_for(
+            alloc.clone()?,
+            setup,
+            self.settings.gateways(),
+            by_gateways,
+            &place,
+            &contacts,
+            self.token(),
+            request,
+        )?;
+        match moment {
+            None => Ok(Decision::Opens),
+            Some(moment) => Ok(Decision::OpensBy(moment)),
+        }
+    }
+
+    /// What becomes of a request that is opened by this rule, or goes no further by it.
+    fn opened_if<R: Wait>(
+        &self,
+        rt: &R,
+        alloc: &A,
+        setup: &Setup<A>,
+        rule: Rule,
+        request: &Message<A>,
+        source: Hop,
+    ) -> Result<Decision<A>, AllocError>
+        ensures { IfOk result (λ decision. IsOpenedBy (may_go rule request.now) (serving_of self.now) setup.now rule request.now source (seen_decision setup.now decision)) }
+    {
+        if !may_go(rule, request) {
+            return Ok(Decision::Leaves);
+        }
+        self.opened(rt, alloc, setup, rule, request, source)
+    }
+
+    /// What is decided of a request that may open a call, and came from there (RFC 3261 sections 16.3 and 22.3). A REGISTER for the domain
+    /// is for the registrar; an ACK goes on for one who is trusted, or within a dialog, alone.
+    ///
+    /// # Errors
+    ///
+    /// Only where the allocator refuses.
+    pub fn decide<R: Wait>(
+        &self,
+        rt: &R,
+        alloc: &A,
+        setup: &Setup<A>,
+        request: &Message<A>,
+        source: Hop,
+    ) -> Result<Decided<A>, AllocError>
+        ensures { IfOk result (λ decided. IsServed (serving_of self.now) setup.now request.now source (seen_decision setup.now decided.decision) (option_map (λ n. n.items) decided.noted)) }
+    {
+        let realm = self.realm();
+        let admission = self.admission(setup, realm.as_ref());
+        let arrival = self.arrival(rt, alloc, setup, request, source)?;
+        match decision_of(alloc.clone()?, &admission, arrival, request)? {
+            SenderDecision::Registers => Ok(Decided {
+                decision: Decision::Leaves,
+                noted: None,
+            }),
+            SenderDecision::Opens(rule) => Ok(Decided {
+                decision: self.opened_if(rt, alloc, setup, rule, request, source)?,
+                noted: None,
+            }),
+            SenderDecision::Turned(answer, noted) => Ok(Decided {
+                decision: Decision::Answers(answer),
+                noted,
+            }),
+        }
+    }
+}
