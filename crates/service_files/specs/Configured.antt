@@ -1,43 +1,50 @@
--- The configuration of a proxy: what a text sets a service up with, where each of its lines is obeyed.
-use Rattle.std.specs.Prelude.{◌≡◌, ◌==◌, ◌&&◌, ℕ, Bool, true, false, not, is_some, List, [], ◌∷◌, Option, Some, None, if◌then◌else◌}
-use Rattle.proxy_config.specs.Setup.{Setup}
+-- The configuration of a proxy: what its text sets a service up with, and who has a password, by the list of users that goes with a realm.
+use Rattle.std.specs.Prelude.{◌≡◌, ℕ, List, Option, Some, None}
+use Rattle.std.specs.Option.{option_map}
 use Rattle.service_config.specs.Configuration.{IsServiceConfiguration}
-use Rattle.service_config.specs.Settings.{Settings}
-use Rattle.service_config.specs.declared.expirations.Expirations.{Expirations}
-use Rattle.service_files.specs.declared.fault.DaemonFault.{DaemonFault}
-use Rattle.service_files.specs.declared.fault.DaemonFault.TheVariants as fault
-use Rattle.service_files.specs.declared.setup.UnobeyedLine.{UnobeyedLine}
-use Rattle.service_files.specs.declared.setup.UnobeyedLine.TheVariants as line
+use Rattle.service_config.specs.Settings.{Realm, Settings}
+use Rattle.service_config.specs.declared.users_fault.UsersFault.{UsersFault}
+use Rattle.service_config.specs.declared.users_fault.UsersFault.TheVariants as fault
+use Rattle.sip_digest.specs.declared.algorithm.Algorithms.{Algorithms}
+use Rattle.sip_digest.specs.declared.users.UserList.{UserList}
+use Rattle.sip_digest.specs.User.{User}
+use Rattle.sip_digest.specs.UserView.{HasListed}
+use Rattle.sip_digest.specs.Users as listed
+use Rattle.service_files.specs.declared.setup.Configuration.{Configuration}
 
-abbrev pub are_usual : Expirations → Bool
-are_usual times = times.least == 60 && times.usual == 3600 && times.most == 86400
+abbrev pub algorithms_of : Realm → Algorithms
+algorithms_of realm = realm.algorithms
 
-abbrev pub has_any : {X : Type 0} → List X → Bool
-has_any [] = false
-has_any (x ∷ xs) = true
+abbrev pub algorithms_in : Settings → Option Algorithms
+algorithms_in settings = option_map algorithms_of settings.realm
 
--- the first line that is not obeyed yet
-abbrev pub unobeyed : Settings → Option UnobeyedLine
-unobeyed s =
-    if is_some s.realm then Some line.Realm
-    else (if not (are_usual s.expirations) then Some line.Expires
-    else (if s.strangers then Some line.Strangers
-    else (if has_any s.nets then Some line.Trust
-    else (if has_any s.gateways then Some line.Gateway
-    else None))))
+-- a realm has the users that the list has, and without a realm there is no list
+module _ {A : Type 0} where
+  abbrev pub AreUsers : Option Algorithms → Option (List ℕ) → Option (UserList A) → Type 0
+  AreUsers (Some algorithms) (Some text) (Some list) = HasListed algorithms text list
+  AreUsers None None None = Unit {0}
+  AreUsers _ _ _ = ⊥
 
--- each line is obeyed, and this is the setup
-abbrev pub IsSetupIn : Settings → Setup → Type 0
-IsSetupIn s setup = (unobeyed s ≡ None) × (setup ≡ s.setup)
+abbrev pub SpellsUsers : Option Algorithms → Option (List ℕ) → Type 0
+SpellsUsers (Some algorithms) (Some text) = (users : List User) × listed.ListsUsers algorithms text users
+SpellsUsers None None = Unit {0}
+SpellsUsers _ _ = ⊥
 
-abbrev pub IsFaultIn : Settings → DaemonFault → Type 0
-IsFaultIn s (fault.Unobeyed l) = unobeyed s ≡ Some l
-IsFaultIn s _ = ⊥
+-- why there are none: one is without the other, or this is the first malformed line of the list
+abbrev pub IsUsersFaultOf : Option Algorithms → Option (List ℕ) → UsersFault → Type 0
+IsUsersFaultOf (Some algorithms) None fault.NoUsers = Unit {0}
+IsUsersFaultOf None (Some text) fault.NoRealm = Unit {0}
+IsUsersFaultOf (Some algorithms) (Some text) (fault.Line n) = listed.IsMalformedAt algorithms text n
+IsUsersFaultOf (Some algorithms) (Some text) fault.NoMemory = Unit {0}
+IsUsersFaultOf _ _ _ = ⊥
 
--- the text sets a proxy up so, in a run with this number
-abbrev pub IsConfigured : List ℕ → ℕ → Setup → Type 0
-IsConfigured text number setup = (s : Settings) × IsServiceConfiguration number text s × IsSetupIn s setup
+-- these texts, of the configuration and of its users, if there are any, set a proxy up so, in a run with this number
+pub record IsConfigured {A : Type 0} (text : List ℕ) (users : Option (List ℕ)) (number : ℕ) (configuration : Configuration A) : Type 0 where
+  pub settings : IsServiceConfiguration number text configuration.settings
+  pub users_are : AreUsers (algorithms_in configuration.settings) users configuration.users
 
--- it would, but for this line
-abbrev pub IsUnobeyedIn : List ℕ → ℕ → UnobeyedLine → Type 0
-IsUnobeyedIn text number l = (s : Settings) × IsServiceConfiguration number text s × (unobeyed s ≡ Some l)
+-- the first one would, but its users cannot be had
+pub record LacksUsers (text : List ℕ) (users : Option (List ℕ)) (number : ℕ) (why : UsersFault) : Type 0 where
+  pub settings : Settings
+  pub spelled : IsServiceConfiguration number text settings
+  pub lacks : IsUsersFaultOf (algorithms_in settings) users why

@@ -1,7 +1,9 @@
 -- Why a proxy does not serve, or serves no longer.
-use Rattle.std.specs.Prelude.{◌<◌, ◌≤◌, ℕ, List, length}
+use Rattle.std.specs.Prelude.{◌<◌, ◌≤◌, ℕ, List, Option, Some, None, length}
 use Rattle.service_config.specs.Configuration.{IsMalformedAt}
-use Rattle.service_files.specs.Configured.{IsUnobeyedIn}
+use Rattle.service_config.specs.declared.users_fault.UsersFault.{UsersFault}
+use Rattle.service_config.specs.declared.users_fault.UsersFault.TheVariants as users
+use Rattle.service_files.specs.Configured.{LacksUsers}
 use Rattle.service_files.specs.declared.fault.DaemonFault.{DaemonFault}
 use Rattle.service_files.specs.declared.fault.DaemonFault.TheVariants as fault
 
@@ -9,10 +11,11 @@ abbrev pub exit_status : DaemonFault → ℕ
 exit_status fault.Unreadable = 1
 exit_status fault.TooLong = 1
 exit_status (fault.Line n) = 1
-exit_status (fault.Unobeyed l) = 1
+exit_status (fault.Users why) = 1
 exit_status fault.Identity = 1
 exit_status fault.NoMemory = 3
 exit_status fault.Clock = 5
+exit_status fault.Random = 5
 exit_status fault.Socket = 5
 exit_status fault.Control = 5
 exit_status fault.Metrics = 5
@@ -22,21 +25,37 @@ exit_status fault.Journal = 5
 abbrev pub most_text : ℕ
 most_text = 1048576
 
--- what each fault says of a text that was read in a run with this number: it is too long; it is not, and this is its first malformed line, or a
--- line that is not obeyed yet
-abbrev pub IsFaultOf : List ℕ → ℕ → DaemonFault → Type 0
-IsFaultOf text number fault.TooLong = most_text < length text
-IsFaultOf text number (fault.Line n) = (length text ≤ most_text) × IsMalformedAt number text n
-IsFaultOf text number (fault.Unobeyed l) = (length text ≤ most_text) × IsUnobeyedIn text number l
-IsFaultOf text number fault.NoMemory = length text ≤ most_text
-IsFaultOf text number _ = ⊥
+-- what each fault says of the text of a configuration that was read in a run with this number: it is too long; it is not, and this is its first
+-- malformed line
+abbrev pub IsSettingsFaultOf : List ℕ → ℕ → DaemonFault → Type 0
+IsSettingsFaultOf text number fault.TooLong = most_text < length text
+IsSettingsFaultOf text number (fault.Line n) = (length text ≤ most_text) × IsMalformedAt number text n
+IsSettingsFaultOf text number fault.NoMemory = length text ≤ most_text
+IsSettingsFaultOf text number _ = ⊥
+
+-- what each fault says of the texts of a configuration that was read in a run with this number: it is too long; it is not, and this is its first
+-- malformed line, or it is well-formed, and this is why its users cannot be had
+abbrev pub IsFaultOf : List ℕ → Option (List ℕ) → ℕ → DaemonFault → Type 0
+IsFaultOf text users number fault.TooLong = most_text < length text
+IsFaultOf text users number (fault.Line n) = (length text ≤ most_text) × IsMalformedAt number text n
+IsFaultOf text users number (fault.Users why) = (length text ≤ most_text) × LacksUsers text users number why
+IsFaultOf text users number fault.NoMemory = length text ≤ most_text
+IsFaultOf text users number _ = ⊥
+
+abbrev pub fault_of_users : UsersFault → DaemonFault
+fault_of_users users.NoMemory = fault.NoMemory
+fault_of_users users.Unreadable = fault.Users users.Unreadable
+fault_of_users users.TooLong = fault.Users users.TooLong
+fault_of_users (users.Line n) = fault.Users (users.Line n)
+fault_of_users users.NoUsers = fault.Users users.NoUsers
+fault_of_users users.NoRealm = fault.Users users.NoRealm
 
 -- why a configuration's file is not taken
 abbrev pub IsConfigurationFault : DaemonFault → Type 0
 IsConfigurationFault fault.Unreadable = Unit {0}
 IsConfigurationFault fault.TooLong = Unit {0}
 IsConfigurationFault (fault.Line n) = Unit {0}
-IsConfigurationFault (fault.Unobeyed l) = Unit {0}
+IsConfigurationFault (fault.Users why) = Unit {0}
 IsConfigurationFault fault.NoMemory = Unit {0}
 IsConfigurationFault _ = ⊥
 
@@ -63,3 +82,9 @@ abbrev pub IsJournalFault : DaemonFault → Type 0
 IsJournalFault fault.Journal = Unit {0}
 IsJournalFault fault.NoMemory = Unit {0}
 IsJournalFault _ = ⊥
+
+-- why the file of the users cannot be read
+abbrev pub IsUsersFault : DaemonFault → Type 0
+IsUsersFault (fault.Users users.Unreadable) = Unit {0}
+IsUsersFault fault.NoMemory = Unit {0}
+IsUsersFault _ = ⊥

@@ -1,9 +1,9 @@
 //! Why a proxy does not serve, or serves no longer.
 ghost use Rattle.std.specs.Prelude.{◌≡◌};
 ghost use Rattle.service_files.specs.declared.fault.DaemonFault.TheVariants as faults;
-ghost use Rattle.service_files.specs.Faults.{exit_status, IsConfigurationFault, IsControlFault, IsJournalFault, IsMetricsFault, IsSocketFault};
+ghost use Rattle.service_files.specs.Faults.{exit_status, IsConfigurationFault, IsControlFault, IsJournalFault, IsMetricsFault, IsSocketFault, IsUsersFault};
 
-use crate::setup::UnobeyedLine;
+use service_config::UsersFault;
 use std::alloc::AllocError;
 use std::io;
 use std::io::ErrorKind;
@@ -21,9 +21,9 @@ pub enum DaemonFault {
     /// The first malformed line of the configuration, counted from 1; a missing one has the number that it would have.
     #[error("configuration, line {0}: malformed")]
     Line(usize),
-    /// A line of the configuration is not obeyed yet.
-    #[error("configuration: {0} is not obeyed yet")]
-    Unobeyed(UnobeyedLine),
+    /// The users of the configuration's realm cannot be had.
+    #[error("{0}")]
+    Users(UsersFault),
     /// The address or the instance of a configuration that is read anew is another one.
     #[error("address and instance may not change")]
     Identity,
@@ -34,6 +34,9 @@ pub enum DaemonFault {
     /// The clock cannot be read.
     #[error("the clock cannot be read")]
     Clock,
+    /// The system has no random bytes.
+    #[error("no random bytes can be had")]
+    Random,
     /// The address could not be bound, or a receive failed.
     #[error("socket fault")]
     Socket,
@@ -57,10 +60,11 @@ impl DaemonFault {
             DaemonFault::Unreadable
             | DaemonFault::TooLong
             | DaemonFault::Line(_)
-            | DaemonFault::Unobeyed(_)
+            | DaemonFault::Users(_)
             | DaemonFault::Identity => 1,
             DaemonFault::NoMemory => 3,
             DaemonFault::Clock
+            | DaemonFault::Random
             | DaemonFault::Socket
             | DaemonFault::Control
             | DaemonFault::Metrics
@@ -77,6 +81,23 @@ impl From<AllocError> for DaemonFault {
     }
 }
 
+impl From<UsersFault> for DaemonFault {
+    ghost use Rattle.service_files.specs.Faults.{fault_of_users};
+
+    ghost from_gives = { λ fault given. given ≡ fault_of_users fault };
+
+    fn from(fault: UsersFault) -> DaemonFault {
+        match fault {
+            UsersFault::NoMemory => DaemonFault::NoMemory,
+            UsersFault::Unreadable => DaemonFault::Users(UsersFault::Unreadable),
+            UsersFault::TooLong => DaemonFault::Users(UsersFault::TooLong),
+            UsersFault::Line(number) => DaemonFault::Users(UsersFault::Line(number)),
+            UsersFault::NoUsers => DaemonFault::Users(UsersFault::NoUsers),
+            UsersFault::NoRealm => DaemonFault::Users(UsersFault::NoRealm),
+        }
+    }
+}
+
 /// Why a configuration's file cannot be read: the system refuses, or has no memory.
 pub fn configuration_fault(error: io::Error) -> DaemonFault
     ensures { IsConfigurationFault result }
@@ -84,6 +105,16 @@ pub fn configuration_fault(error: io::Error) -> DaemonFault
     match error.kind() {
         ErrorKind::OutOfMemory => DaemonFault::NoMemory,
         _ => DaemonFault::Unreadable,
+    }
+}
+
+/// Why the file of the users cannot be read: the system refuses, or has no memory.
+pub fn users_fault(error: io::Error) -> DaemonFault
+    ensures { IsUsersFault result }
+{
+    match error.kind() {
+        ErrorKind::OutOfMemory => DaemonFault::NoMemory,
+        _ => DaemonFault::Users(UsersFault::Unreadable),
     }
 }
 

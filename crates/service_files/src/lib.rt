@@ -15,6 +15,7 @@ mod system;
 
 pub use fault::{
     DaemonFault, configuration_fault, control_fault, journal_fault, metrics_fault, socket_fault,
+    users_fault,
 };
 pub use files::ProxyFiles;
 pub use memory::{
@@ -22,4 +23,4 @@ pub use memory::{
 };
 pub use options::Options;
 pub use queue::{Batch, JournalQueue};
-pub use setup::{Identity, UnobeyedLine, read_setup, read_text};
+pub use setup::{Configuration, Identity, check_files, read_config, read_text, read_users};

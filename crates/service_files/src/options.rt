@@ -5,6 +5,8 @@
 pub struct Options<'a> {
     /// The file of its configuration.
     pub config: &'a str,
+    /// The file of its users, where its configuration has a realm.
+    pub users: Option<&'a str>,
     /// The file of its control socket.
     pub control: &'a str,
     /// The file to which each call is written at its end.
@@ -12,6 +14,8 @@ pub struct Options<'a> {
     /// How many calls it keeps at most; while it has so many it opens no more, but for a tenth of them for requests within dialogs. Left
     /// out, it follows the memory of the machine (see [`crate::memory::most_calls_here`]).
     pub most_calls: Option<u64>,
+    /// How many contacts may be bound to its users in all.
+    pub most_bindings: u32,
     /// How many threads receive and handle datagrams.
     pub workers: usize,
     /// Whether it stays on the path of the dialogs that pass it.

@@ -1,19 +1,31 @@
 //! The configuration of a proxy, as it is read at its start and anew while it serves.
-ghost use Rattle.std.specs.Prelude.{◌≡◌, ◌<◌, ◌↔◌, length, IfErr, IfOk, IsErrOf, IsTrue};
+ghost use Rattle.std.specs.Prelude.{◌≡◌, ◌<◌, ◌↔◌, length, IfErr, IfOk, IsErrOf};
+ghost use Rattle.std.specs.Option.{option_copied};
 ghost use Rattle.service_files.specs.declared.fault.DaemonFault.TheVariants as faults;
-ghost use Rattle.service_files.specs.Configured.{are_usual, unobeyed, IsConfigured, IsFaultIn, IsSetupIn};
-ghost use Rattle.service_files.specs.Faults.{most_text, IsConfigurationFault, IsFaultOf};
+ghost use Rattle.service_config.specs.Configuration.{IsServiceConfiguration};
+ghost use Rattle.service_files.specs.Configured.{algorithms_in, AreUsers, IsConfigured, IsUsersFaultOf};
+ghost use Rattle.service_files.specs.Faults.{most_text, IsConfigurationFault, IsFaultOf, IsSettingsFaultOf};
 
-use crate::fault::{DaemonFault, configuration_fault};
+use crate::fault::{DaemonFault, configuration_fault, users_fault};
 use crate::files::ProxyFiles;
 use proxy_config::{Setup, SetupFault};
-use service_config::{Expirations, ServiceSettings};
+use service_config::{ServiceSettings, UsersFault};
+use sip_digest::{Algorithms, UserFault, UserList};
 use sip_via::Own;
 use std::alloc::{Allocator, Global};
-use thiserror::Error;
 
 /// How many bytes a configuration has at most.
 const MOST_TEXT: usize = 1_048_576;
+
+/// How many bytes the file of its users has at most.
+const MOST_USERS: usize = 67_108_864;
+
+/// What a service goes by: its settings, and who has a password, where they name a realm.
+#[derive(Drop)]
+pub struct Configuration<A: Allocator = Global> {
+    pub settings: ServiceSettings<A>,
+    pub users: Option<UserList<A>>,
+}
 
 /// What answers are known by: a proxy keeps both as long as it runs (RFC 3261 section 16.7 step 1).
 #[derive(Clone, Copy, PartialEq, Eq, Debug)]
@@ -35,101 +47,151 @@ impl Identity {
     }
 }
 
-/// A line that a configuration may have, and that is not obeyed yet. A proxy that served without it would let in whom the line keeps out, or
-/// send where the line does not say.
-#[derive(Clone, Copy, PartialEq, Eq, Debug, Error)]
-pub enum UnobeyedLine {
-    #[error("realm")]
-    Realm,
-    #[error("expires")]
-    Expires,
-    #[error("strangers")]
-    Strangers,
-    #[error("trust")]
-    Trust,
-    #[error("gateway")]
-    Gateway,
-}
-
-/// Whether the times of registrations are those of a configuration without such a line.
-fn are_usual(expirations: Expirations) -> bool
-    ensures { result ≡ are_usual expirations }
+/// By which algorithms the realm of settings challenges, if they have one.
+fn algorithms_in<A: Allocator>(settings: &ServiceSettings<A>) -> Option<Algorithms>
+    ensures { result ≡ algorithms_in settings.now }
 {
-    expirations.least == 60 && expirations.usual == 3_600 && expirations.most == 86_400
-}
-
-/// Which line of a configuration is not obeyed yet, if it has one.
-fn unobeyed<A: Allocator>(settings: &ServiceSettings<A>) -> Option<UnobeyedLine>
-    ensures { result ≡ unobeyed settings.now }
-{
-    if settings.realm().is_some() {
-        Some(UnobeyedLine::Realm)
-    } else if !are_usual(settings.expirations()) {
-        Some(UnobeyedLine::Expires)
-    } else if settings.serves_strangers() {
-        Some(UnobeyedLine::Strangers)
-    } else if !settings.nets().is_empty() {
-        Some(UnobeyedLine::Trust)
-    } else if !settings.gateways().is_empty() {
-        Some(UnobeyedLine::Gateway)
-    } else {
-        None
+    match settings.realm() {
+        None => None,
+        Some(realm) => Some(realm.algorithms),
     }
 }
 
-/// The setup of these settings, where each of their lines is obeyed.
-fn setup_in<A: Allocator + Clone>(settings: ServiceSettings<A>) -> Result<Setup<A>, DaemonFault>
-    ensures ok { IfOk result (IsSetupIn settings) }
-    ensures fault { IfErr result (IsFaultIn settings) }
-{
-    match unobeyed(&settings) {
-        Some(line) => Err(DaemonFault::Unobeyed(line)),
-        None => Ok(settings.into_setup()),
-    }
-}
-
-/// Reads the text of a configuration (see [`ServiceSettings::read`]). Where it has no line of an instance, this number is the instance.
+/// The users of a realm that challenges by these algorithms, as this text lists them; without a realm there is no text.
 ///
 /// # Errors
 ///
-/// `TooLong` over 1,048,576 bytes; else `Line` with the first malformed line of the text, a missing one by the number that it would
-/// have; else `Unobeyed` with a line that is not obeyed yet; `NoMemory` where the allocator refuses.
-#[tactic(auto, using(crate::proofs::Configured::configured_so, crate::proofs::Configured::refused_so))]
-pub fn read_text<A: Allocator + Clone>(
+/// `NoUsers` for a realm without a text, `NoRealm` for a text without a realm; `Line` with the first malformed line; `NoMemory`.
+fn users_in<A: Allocator + Clone>(
     alloc: A,
+    algorithms: Option<Algorithms>,
+    text: Option<&[u8]>,
+) -> Result<Option<UserList<A>>, UsersFault>
+    ensures ok { IfOk result (AreUsers algorithms (option_copied text.entry)) }
+    ensures fault { IfErr result (IsUsersFaultOf algorithms (option_copied text.entry)) }
+{
+    match (algorithms, text) {
+        (None, None) => Ok(None),
+        (Some(_), None) => Err(UsersFault::NoUsers),
+        (None, Some(_)) => Err(UsersFault::NoRealm),
+        (Some(algorithms), Some(text)) => match UserList::read(alloc, text, algorithms) {
+            Ok(list) => Ok(Some(list)),
+            Err(UserFault::Line(number)) => Err(UsersFault::Line(number)),
+            Err(UserFault::NoMemory) => Err(UsersFault::NoMemory),
+        },
+    }
+}
+
+/// The settings that a text spells, in a run with this number.
+fn settings_in<A: Allocator + Clone>(
+    alloc: &A,
     text: &[u8],
     number: u32,
-) -> Result<Setup<A>, DaemonFault>
-    ensures ok { IfOk result (IsConfigured text.now number) }
+) -> Result<ServiceSettings<A>, DaemonFault>
+    ensures ok { IfOk result (IsServiceConfiguration number text.now) }
     ensures too_long { IsErrOf result faults.TooLong ↔ (most_text < length text.now) }
-    ensures fault { IfErr result (IsFaultOf text.now number) }
+    ensures fault { IfErr result (IsSettingsFaultOf text.now number) }
 {
     if text.len() > MOST_TEXT {
         return Err(DaemonFault::TooLong);
     }
-    match ServiceSettings::read(alloc, text, number) {
-        Ok(settings) => setup_in(settings),
+    match ServiceSettings::read(alloc.clone()?, text, number) {
+        Ok(settings) => Ok(settings),
         Err(SetupFault::Line(line)) => Err(DaemonFault::Line(line)),
         Err(SetupFault::NoMemory) => Err(DaemonFault::NoMemory),
     }
 }
 
-/// Reads a configuration's file, whose instance is this number where it has no line of one.
+/// Reads the text of a configuration (see [`ServiceSettings::read`]), and the list of users that goes with its realm, if it has one (see
+/// [`UserList::read`]). Where it has no line of an instance, this number is the instance.
 ///
 /// # Errors
 ///
-/// `Unreadable` where the system refuses; else those of [`read_text`].
-pub fn read_setup<R: ProxyFiles>(
+/// `TooLong` over 1,048,576 bytes; else `Line` with the first malformed line of the text, a missing one by the number that it would
+/// have; else `Users` where it has a realm without a list, or a list without a realm, or with the first malformed line of the list;
+/// `NoMemory` where the allocator refuses.
+#[tactic(auto, using(crate::proofs::Faults::lacks_users, crate::proofs::Faults::not_too_long))]
+pub fn read_text<A: Allocator + Clone>(
+    alloc: A,
+    text: &[u8],
+    users: Option<&[u8]>,
+    number: u32,
+) -> Result<Configuration<A>, DaemonFault>
+    ensures ok { IfOk result (IsConfigured text.now (option_copied users.entry) number) }
+    ensures too_long { IsErrOf result faults.TooLong ↔ (most_text < length text.now) }
+    ensures fault { IfErr result (IsFaultOf text.now (option_copied users.entry) number) }
+{
+    let settings = settings_in(&alloc, text, number)?;
+    let algorithms = algorithms_in(&settings);
+    match users_in(alloc, algorithms, users) {
+        Ok(users) => Ok(Configuration { settings, users }),
+        Err(fault) => Err(DaemonFault::from(fault)),
+    }
+}
+
+/// The text of a configuration's file; of one that is too long as much as tells so.
+///
+/// # Errors
+///
+/// `Unreadable` where the system refuses, and `NoMemory`.
+pub fn read_config<R: ProxyFiles>(rt: &R, alloc: Global, path: &str) -> Result<Vec<u8>, DaemonFault>
+    ensures { IfErr result IsConfigurationFault }
+{
+    match rt.read_file(alloc, path, MOST_TEXT) {
+        Ok(text) => Ok(text),
+        Err(error) => Err(configuration_fault(error)),
+    }
+}
+
+/// The text of the file of the users, if there is one.
+///
+/// # Errors
+///
+/// `Users` where the system refuses, or it has more than 67,108,864 bytes; and `NoMemory`.
+pub fn read_users<R: ProxyFiles>(
+    rt: &R,
+    alloc: Global,
+    path: Option<&str>,
+) -> Result<Option<Vec<u8>>, DaemonFault>
+    ensures { IfErr result IsConfigurationFault }
+{
+    let Some(path) = path else {
+        return Ok(None);
+    };
+    match rt.read_file(alloc, path, MOST_USERS) {
+        Ok(text) => {
+            if text.len() > MOST_USERS {
+                return Err(DaemonFault::Users(UsersFault::TooLong));
+            }
+            Ok(Some(text))
+        }
+        Err(error) => Err(users_fault(error)),
+    }
+}
+
+/// Looks at a configuration's file and at that of its users, or, where none is named, at the configuration alone.
+///
+/// # Errors
+///
+/// `Unreadable` where the system refuses; else those of [`read_text`], without those of users where no file of them is named.
+pub fn check_files<R: ProxyFiles>(
     rt: &R,
     alloc: Global,
     config: &str,
-    number: u32,
-) -> Result<Setup<Global>, DaemonFault>
+    users: Option<&str>,
+) -> Result<(), DaemonFault>
     ensures { IfErr result IsConfigurationFault }
 {
-    let text = match rt.read_file(alloc, config, MOST_TEXT) {
-        Ok(text) => text,
-        Err(error) => return Err(configuration_fault(error)),
-    };
-    read_text(alloc, text.as_slice(), number)
+    let text = read_config(rt, alloc, config)?;
+    match read_users(rt, alloc, users)? {
+        None => {
+            let settings = settings_in(&alloc, &text, 0)?;
+            drop(settings);
+        }
+        Some(users) => {
+            let configuration = read_text(alloc, &text, Some(&users), 0)?;
+            drop(configuration);
+        }
+    }
+    Ok(())
 }
