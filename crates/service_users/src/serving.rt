@@ -1,0 +1,229 @@
+//! What a service decides of the requests that come.
+use crate::last_refused::Refused;
+use crate::users::ServiceUsers;
+use authentication::{OwnAnswer, append_note};
+use call_journal::append_shown;
+use call_table::Schedule;
+use fork_call::Setup;
+use metrics::SenderCounts;
+use proxy_dispatch::{Admission, Decision, Opener};
+use service_admission::QuotaAt;
+use service_decisions::{Decided, Registered, ServiceView};
+use sip_route::request_uri;
+use sip_text::Message;
+use sip_uri::Hop;
+use std::alloc::{AllocError, Allocator, Global};
+use std::sync::Wait;
+
+/// What an operator is told of why an ACK went nowhere.
+const UNANSWERED: &[u8] = b"neither trusted nor of a dialog";
+
+/// A service as a datagram finds it: which requests may open calls, and what is decided of each.
+#[derive(Drop)]
+pub struct ServedAt<'a, A: Allocator + Copy> {
+    pub places: QuotaAt<'a>,
+    pub view: ServiceView<'a, A>,
+    pub users: &'a ServiceUsers<A>,
+    pub schedule: &'a Schedule<A>,
+    pub heap: Global,
+    pub counts: &'a SenderCounts,
+}
+
+/// The line of wrong credentials for this name that came from there.
+fn warning(heap: Global, name: &[u8], source: Hop) -> Result<Vec<u8>, AllocError> {
+    let mut line = Vec::new(heap);
+    append_note(&mut line, name, source)?;
+    line.push(b'\n')?;
+    Ok(line)
+}
+
+/// Why a request was refused: wrong credentials for a name, if they came, or else by the reason of its answer.
+fn why_refused<A: Allocator>(
+    heap: Global,
+    reason: &[u8],
+    noted: &Option<Vec<u8, A>>,
+) -> Result<Vec<u8>, AllocError> {
+    let mut why = Vec::new(heap);
+    match noted {
+        Some(name) => {
+            why.extend_from_slice(b"wrong credentials for ")?;
+            append_shown(&mut why, name)?;
+        }
+        None => why.extend_from_slice(reason)?,
+    }
+    Ok(why)
+}
+
+/// Whether a request is refused that is answered so: it is not asked who it is from, or it came with wrong credentials for a name.
+fn is_refusal<A: Allocator>(answer: &OwnAnswer<A>, noted: &Option<Vec<u8, A>>) -> bool {
+    noted.is_some() || !matches!(answer.status().code(), 200 | 401 | 407)
+}
+
+/// Whether a request is an ACK.
+fn is_ack<A: Allocator>(request: &Message<A>) -> bool {
+    request.method() == Some(b"ACK".as_slice())
+}
+
+/// From where a request came, and when, in milliseconds.
+#[derive(Clone, Copy)]
+struct Arrived {
+    source: Hop,
+    at: u64,
+}
+
+impl<A: Allocator + Copy> ServedAt<'_, A> {
+    /// Counts wrong credentials, where they came for a name, and lets a line of them be written.
+    fn note<R: Wait>(&self, rt: &R, name: &Option<Vec<u8, A>>, source: Hop) {
+        let Some(name) = name else {
+            return;
+        };
+        self.counts.wrong_credentials.add(1);
+        if let Ok(line) = warning(self.heap, name, source) {
+            let _ = self.users.warnings.push(rt, &line);
+        }
+    }
+
+    /// Counts what is decided of a request, where nothing is opened. An ACK is not answered.
+    fn count(&self, decision: &Decision<A>, request: &Message<A>) {
+        match decision {
+            Decision::Answers(answer) if !is_ack(request) => {
+                self.counts.turn(answer.status().code());
+            }
+            Decision::Answers(_) | Decision::Leaves => self.counts.refused.add(1),
+            Decision::Opens | Decision::OpensBy(_) => {}
+        }
+    }
+
+    /// Keeps what an operator may be told of a request that was refused: with this answer, or with none.
+    fn keep<R: Wait>(
+        &self,
+        rt: &R,
+        request: &Message<A>,
+        arrived: Arrived,
+        answer: Option<&OwnAnswer<A>>,
+        noted: &Option<Vec<u8, A>>,
+    ) {
+        let (status, reason) = match answer {
+            Some(answer) => (Some(answer.status().code()), answer.status().reason()),
+            None => (None, UNANSWERED),
+        };
+        let Ok(why) = why_refused(self.heap, reason, noted) else {
+            return;
+        };
+        let refused = Refused {
+            source: arrived.source,
+            method: request.method().unwrap_or(b""),
+            uri: request_uri(request),
+            status,
+            why: &why,
+        };
+        self.users.last_refused.keep(rt, &refused, arrived.at);
+    }
+
+    /// Keeps what an operator may be told of a request of which this is decided, if it is refused.
+    fn keep_decided<R: Wait>(
+        &self,
+        rt: &R,
+        request: &Message<A>,
+        arrived: Arrived,
+        decision: &Decision<A>,
+        noted: &Option<Vec<u8, A>>,
+    ) {
+        match decision {
+            Decision::Answers(_) | Decision::Leaves if is_ack(request) => {
+                self.keep(rt, request, arrived, None, noted);
+            }
+            Decision::Answers(answer) if is_refusal(answer, noted) => {
+                self.keep(rt, request, arrived, Some(answer), noted);
+            }
+            _ => {}
+        }
+    }
+
+    /// Makes what becomes of a REGISTER, and answers how it is answered. None where a change of the same user's bindings is under way: it
+    /// will come again.
+    fn settle<R: Wait>(
+        &self,
+        rt: &R,
+        request: &Message<A>,
+        arrived: Arrived,
+        registered: Registered<A>,
+    ) -> Option<OwnAnswer<A>> {
+        match registered {
+            Registered::Answered(answer, noted) => {
+                self.note(rt, &noted, arrived.source);
+                if is_refusal(&answer, &noted) {
+                    self.keep(rt, request, arrived, Some(&answer), &noted);
+                }
+                Some(answer)
+            }
+            Registered::Changes(change, answer) => {
+                if self.users.registry.commit(rt, change) {
+                    // who keeps the time has not looked for bindings that end until now
+                    self.schedule.wake();
+                }
+                Some(answer)
+            }
+            Registered::Waits => None,
+        }
+    }
+}
+
+impl<A: Allocator + Copy> Admission<A> for ServedAt<'_, A> {
+    ghost use Rattle.std.specs.Prelude.{ℕ, List, Option, true};
+    ghost use Rattle.proxy_dispatch.specs.Admitting.{open_all};
+    ghost use Rattle.service_decisions.specs.SeenServing.{serving_of};
+    ghost use Rattle.service_decisions.specs.Served.{IsServed};
+
+    ghost serving = { λ served. record open_all {
+      decides = λ setup m source now decision. (noted : Option (List ℕ)) × IsServed (serving_of served.view) setup m source decision noted;
+      registrar = true;
+      registers = λ setup m source now answer. Unit {0};
+    } };
+
+    fn admits<R: Wait>(&self, rt: &R, opener: Opener) -> bool {
+        self.places.admits(rt, opener)
+    }
+
+    fn release<R: Wait>(&self, rt: &R) {
+        self.places.release(rt);
+    }
+
+    fn decides<R: Wait>(
+        &self,
+        rt: &R,
+        alloc: &A,
+        setup: &Setup<A>,
+        request: &Message<A>,
+        source: Hop,
+        now: u64,
+    ) -> Result<Decision<A>, AllocError> {
+        let Decided { decision, noted } = self.view.decide(rt, alloc, setup, request, source)?;
+        self.note(rt, &noted, source);
+        self.count(&decision, request);
+        let arrived = Arrived { source, at: now };
+        self.keep_decided(rt, request, arrived, &decision, &noted);
+        Ok(decision)
+    }
+
+    fn has_registrar(&self) -> bool {
+        true
+    }
+
+    fn registers<R: Wait>(
+        &self,
+        rt: &R,
+        alloc: &A,
+        setup: &Setup<A>,
+        request: &Message<A>,
+        source: Hop,
+        now: u64,
+    ) -> Result<Option<OwnAnswer<A>>, AllocError> {
+        let registered = self.view.register(rt, alloc, setup, request, source)?;
+        let answer = self.settle(rt, request, Arrived { source, at: now }, registered);
+        if let Some(answer) = &answer {
+            self.counts.registrations.add(answer.status().code());
+        }
+        Ok(answer)
+    }
+}
