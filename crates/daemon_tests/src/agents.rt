@@ -48,7 +48,7 @@ fn request_of(alloc: Global, port: u16, asked: Asked<'_>) -> Result<String, Allo
 }
 
 /// The answer to a request: this status line, and the header fields of the request (RFC 3261 section 8.2.6).
-fn answer_to(alloc: Global, line: &[u8], request: &[u8]) -> Option<Vec<u8>> {
+pub fn answer_to(alloc: Global, line: &[u8], request: &[u8]) -> Option<Vec<u8>> {
     let (_, fields) = cut_at(request, b'\n');
     let mut answer = Vec::from_slice(alloc, line).ok()?;
     answer.extend_from_slice(fields?).ok()?;
@@ -70,7 +70,7 @@ fn is_of(text: &[u8], front: &str, call: &str) -> bool {
 }
 
 /// The first datagram of a call that begins so, if one comes in some seconds.
-fn heard(alloc: Global, socket: &UdpSocket, front: &str, call: &str) -> Option<Vec<u8>> {
+pub fn heard(alloc: Global, socket: &UdpSocket, front: &str, call: &str) -> Option<Vec<u8>> {
     for _ in 0..LOOKS {
         if let Some(text) = received(alloc, socket) {
             if is_of(text.as_slice(), front, call) {

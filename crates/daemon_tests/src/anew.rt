@@ -16,7 +16,7 @@ const ALL: Served = Served {
 
 /// Bob has another telephone, and carol has none.
 const MOVED: &[u8] =
-    b"own 192.0.2.9 5060\ninstance 7\ndomain example.com\nlocation bob 1000 sip:bob@192.0.2.5\n";
+    b"own 192.0.2.9 5060\ninstance 7\ndomain example.com\ntrust 192.0.2.0/24\nlocation bob 1000 sip:bob@192.0.2.5\n";
 
 /// Another line is malformed, and another one is missing.
 const MALFORMED: &[u8] = b"own 192.0.2.9 5060\ninstance 7\ndomain example.com\nlocation bob\n";
@@ -34,7 +34,7 @@ const OTHER_PORT: &[u8] =
     b"own 192.0.2.9 5061\ninstance 7\ndomain example.com\nlocation bob 1000 sip:bob@192.0.2.5\n";
 
 const NO_INSTANCE: &[u8] =
-    b"own 192.0.2.9 5060\ndomain example.com\nlocation bob 1000 sip:bob@192.0.2.5\n";
+    b"own 192.0.2.9 5060\ndomain example.com\ntrust 192.0.2.0/24\nlocation bob 1000 sip:bob@192.0.2.5\n";
 
 /// A request to carol, whose telephones are tried one after the other.
 const TO_CAROL: Request = Request {

@@ -125,22 +125,24 @@ fn a_call_is_written_down(rt: HostRuntime) {
 fn a_configuration_is_checked(rt: HostRuntime) {
     let options = Options {
         config: FILE,
+        users: None,
         control: "forkproxyd_test_unused",
         journal: None,
         most_calls: Some(1),
+        most_bindings: 1_000,
         workers: 1,
         records: false,
         own_port: false,
         most_per_source: None,
         metrics: None,
     };
-    let served = serve_text(&rt, rt.alloc(), MALFORMED, 1, options);
+    let served = serve_text(&rt, rt.alloc(), MALFORMED, None, 1, options);
     holds(
         &rt,
         served == Err(DaemonFault::Line(2)),
         "a malformed configuration is not served",
     );
-    let missing = check_config(&rt, rt.alloc(), FILE);
+    let missing = check_config(&rt, rt.alloc(), FILE, None);
     holds(
         &rt,
         missing == Err(DaemonFault::Unreadable),
@@ -148,7 +150,7 @@ fn a_configuration_is_checked(rt: HostRuntime) {
     );
     let written = fs::write(&rt, FILE, CONFIGURATION).is_ok();
     holds(&rt, written, "the configuration is written");
-    let checked = check_config(&rt, rt.alloc(), FILE);
+    let checked = check_config(&rt, rt.alloc(), FILE, None);
     holds(&rt, checked.is_ok(), "the configuration is well-formed");
     let _ = fs::remove_file(&rt, FILE);
 }

@@ -1,5 +1,5 @@
-//! Tests of the public calls of `proxy_service` and `fork_daemon`. What a service does is played without sockets, by tables of
-//! moments (`played`), and refused memory (`refused`); what its sockets, threads and files add, by whole proxies (`living`, `wired`, `limited`, `ordering`).
+//! Tests of the public calls of `proxy_service` and `service_threads`. What a service does is played without sockets, by tables of
+//! moments (`played`), and refused memory (`refused`); what its sockets, threads and files add, by whole proxies (`living`, `wired`, `limited`, `ordering`, `registered`).
 #![tactic(auto)]
 
 #[cfg(test)]
@@ -36,6 +36,8 @@ mod played;
 mod racing;
 #[cfg(test)]
 mod refused;
+#[cfg(test)]
+mod registered;
 #[cfg(test)]
 mod ringing;
 #[cfg(test)]

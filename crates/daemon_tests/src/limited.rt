@@ -33,6 +33,7 @@ fn text_of(alloc: Global, counts: &Counts) -> Option<Vec<u8>> {
     let gauges = Gauges {
         seconds: 0,
         held: 0,
+        bindings: 0,
         resident: None,
     };
     counts.text(alloc, gauges).ok()
@@ -90,9 +91,11 @@ const CONFIGURATION: &[u8] = b"own 127.0.0.1 47460\ndomain example.com\n";
 /// Each address may send five datagrams at once, and five more each second.
 const OPTIONS: Options<'static> = Options {
     config: CONFIG,
+    users: None,
     control: CONTROL,
     journal: None,
     most_calls: Some(100),
+    most_bindings: 1_000,
     workers: 2,
     records: false,
     own_port: false,

@@ -39,9 +39,11 @@ const OTHER: &[u8] =
 /// It is full with two calls.
 const OPTIONS: Options<'static> = Options {
     config: CONFIG,
+    users: None,
     control: CONTROL,
     journal: Some(JOURNAL),
     most_calls: Some(2),
+    most_bindings: 1_000,
     workers: 2,
     records: true,
     own_port: true,

@@ -23,9 +23,11 @@ const CONFIGURATION: &[u8] =
 
 const OPTIONS: Options<'static> = Options {
     config: "forkproxyd_test_unused",
+    users: None,
     control: CONTROL,
     journal: None,
     most_calls: Some(1_000),
+    most_bindings: 1_000,
     workers: 4,
     records: false,
     own_port: true,
@@ -97,7 +99,7 @@ fn what_comes_of_one_call_is_handled_in_order(rt: HostRuntime) -> Result<(), Fai
     let alloc = rt.alloc();
     let (served, missed) = join(
         &rt,
-        || serve_text(&rt, alloc, CONFIGURATION, 1, OPTIONS),
+        || serve_text(&rt, alloc, CONFIGURATION, None, 1, OPTIONS),
         || plays(&rt, alloc),
     );
     let ended: Result<(), DaemonFault> = served;

@@ -100,16 +100,19 @@ pub fn service_over<A: Allocator + Copy>(
     text: &[u8],
     served: Served,
 ) -> Option<Service<A>> {
-    let setup = read_text(alloc, text, NUMBER).ok()?;
+    let configuration = read_text(alloc, text, None, NUMBER).ok()?;
     let terms = RunSettings {
-        identity: Identity::of(&setup),
+        identity: Identity::of(configuration.settings.setup()),
         number: NUMBER,
         records: served.records,
         own_port: served.own_port,
         most_calls: served.most_calls,
+        most_bindings: 1_000,
         has_journal: served.has_journal,
+        began: 1_700_000_000_000,
+        secret: [7; 32],
     };
-    Service::new(alloc, heap, setup, terms).ok()
+    Service::new(alloc, heap, configuration, terms).ok()
 }
 
 /// A service that reads this configuration.
@@ -416,7 +419,7 @@ impl<A: Allocator + Copy> Played<A> {
             Turn::WritesNothing => self.writes_nothing(rt),
             Turn::Is(state) => self.service.is_in(state),
             Turn::Sleeps(until) => self.until == until,
-            Turn::Reloads(text, expected) => self.service.reload(rt, text) == expected,
+            Turn::Reloads(text, expected) => self.service.reload(rt, text, None) == expected,
             Turn::Keeps(held, opened) => {
                 let calls = self.service.calls();
                 calls.held(rt) == held && calls.opened(rt) == opened

@@ -10,11 +10,11 @@ use std::time::Clock;
 
 /// Each telephone rings for 15 seconds at most.
 const FIFTEEN: &[u8] =
-    b"# carol's telephones\nown 192.0.2.9 5060\ninstance 7\ndomain example.com\nring 15\n\nlocation carol 1000 sip:carol@192.0.2.5\nlocation carol 500 sip:carol@192.0.2.6\n";
+    b"# carol's telephones\nown 192.0.2.9 5060\ninstance 7\ndomain example.com\nring 15\n\ntrust 192.0.2.0/24\nlocation carol 1000 sip:carol@192.0.2.5\nlocation carol 500 sip:carol@192.0.2.6\n";
 
 /// The same, where the second one alone has the time of the line `ring`.
 const FIRST_ALONE: &[u8] =
-    b"own 192.0.2.9 5060\ninstance 7\ndomain example.com\nring 60\nlocation carol 1000 sip:carol@192.0.2.5 15\nlocation carol 500 sip:carol@192.0.2.6\n";
+    b"own 192.0.2.9 5060\ninstance 7\ndomain example.com\nring 60\ntrust 192.0.2.0/24\nlocation carol 1000 sip:carol@192.0.2.5 15\nlocation carol 500 sip:carol@192.0.2.6\n";
 
 /// An INVITE to carol, whose second telephone is called behind the first one.
 const TO_CAROL: Request = Request {
@@ -113,7 +113,7 @@ const GROUPS: &[Moment] = &[
 
 /// The same telephones for five seconds each, but for the first one's sixty.
 const FIVE: &[u8] =
-    b"own 192.0.2.9 5060\ninstance 7\ndomain example.com\nring 5\nlocation carol 1000 sip:carol@192.0.2.5 60\nlocation carol 500 sip:carol@192.0.2.6\n";
+    b"own 192.0.2.9 5060\ninstance 7\ndomain example.com\nring 5\ntrust 192.0.2.0/24\nlocation carol 1000 sip:carol@192.0.2.5 60\nlocation carol 500 sip:carol@192.0.2.6\n";
 
 /// A second call to carol.
 const AGAIN: Request = Request {
@@ -181,7 +181,7 @@ const READ_ANEW: &[Moment] = &[
 
 /// Two telephones of bob, which are called at once.
 const TWO: &[u8] =
-    b"own 192.0.2.9 5060\ninstance 7\ndomain example.com\nlocation bob 1000 sip:bob@192.0.2.4\nlocation bob 1000 sip:bob@192.0.2.5\n";
+    b"own 192.0.2.9 5060\ninstance 7\ndomain example.com\ntrust 192.0.2.0/24\nlocation bob 1000 sip:bob@192.0.2.4\nlocation bob 1000 sip:bob@192.0.2.5\n";
 
 /// Both ring.
 const RINGING: [Moment; 7] = [

@@ -46,7 +46,7 @@ pub const BESIDE: Hop = Hop {
 
 /// What the proxy is set up with.
 pub const CONFIGURATION: &[u8] =
-    b"own 192.0.2.9 5060\ninstance 7\ndomain example.com\nlocation bob 1000 sip:bob@192.0.2.4\nlocation carol 1000 sip:carol@192.0.2.5\nlocation carol 500 sip:carol@192.0.2.6\n";
+    b"own 192.0.2.9 5060\ninstance 7\ndomain example.com\ntrust 192.0.2.0/24\nlocation bob 1000 sip:bob@192.0.2.4\nlocation carol 1000 sip:carol@192.0.2.5\nlocation carol 500 sip:carol@192.0.2.6\n";
 
 /// A request of the caller. Its branch and its Call-ID are the call's name.
 #[derive(Clone, Copy)]

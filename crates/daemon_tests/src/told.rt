@@ -28,9 +28,11 @@ const CONFIGURATION: &[u8] =
 
 const OPTIONS: Options<'static> = Options {
     config: CONFIG,
+    users: None,
     control: CONTROL,
     journal: Some(JOURNAL),
     most_calls: Some(8),
+    most_bindings: 1_000,
     workers: 2,
     records: false,
     own_port: true,
@@ -111,6 +113,12 @@ fn answered<R: Net + Clock>(rt: &R, alloc: Global, agents: &Agents) -> &'static 
     }
     if !is_told(rt, alloc, "call 0", "\ntarget 1 487 since ") {
         return "an operator is told where each branch stands";
+    }
+    if !tells(rt, alloc, CONTROL, "bindings", "no more\n")
+        || !tells(rt, alloc, CONTROL, "forget bob", "unknown user bob\n")
+        || !tells(rt, alloc, CONTROL, "refused", "no more\n")
+    {
+        return "nobody has registered, and nothing was refused";
     }
     "nothing"
 }

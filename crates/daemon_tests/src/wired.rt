@@ -31,9 +31,11 @@ const CONFIGURATION: &[u8] =
 /// It is full with the calls that the test opens.
 const OPTIONS: Options<'static> = Options {
     config: CONFIG,
+    users: None,
     control: CONTROL,
     journal: Some(JOURNAL),
     most_calls: Some(8),
+    most_bindings: 1_000,
     workers: 2,
     records: true,
     own_port: true,

@@ -4,12 +4,14 @@
 use clap::{Arg, ArgAction, ArgMatches, Command, value_parser};
 use control_socket::tell;
 use metrics::PageSockets;
+use service_config::{UserLineFault, user_line};
 use service_files::{DaemonFault, Options, ProxyFiles};
 use service_threads::{check_config, serve};
 use std::alloc::{AllocError, Global};
-use std::io::{Eprint, Print};
+use std::io::{Eprint, Print, Read};
 use std::net::Net;
 use std::process::ExitCode;
+use std::random::RandomSource;
 use std::sync::Wait;
 use std::thread::Threads;
 use std::time::{Clock, Duration};
@@ -33,6 +35,12 @@ const LONGEST_ANSWER: u64 = 10;
 /// For how many seconds the end of a proxy is waited for beyond those for which calls may go on.
 const LONGEST_END: u64 = 40;
 
+/// How many contacts may be bound to the users in all where the words do not say how many.
+const MOST_BINDINGS: u32 = 1_000_000;
+
+/// How many bytes of a password's line are read at most.
+const MOST_TYPED: usize = 4_096;
+
 /// How many threads handle datagrams at least, and at most, where the words do not say how many.
 const FEWEST_WORKERS: usize = 2;
 
@@ -43,19 +51,35 @@ fn tell_command<'a>(alloc: Global) -> Result<Command<'a>, AllocError> {
     let path = Arg::new(alloc, "path")
         .required(true)
         .help("the control socket's file");
-    let what = Arg::new(alloc, "what")
-        .required(true)
-        .help("stop, reload, stats, calls or call");
-    let number = Arg::new(alloc, "number").help(
-        "for how many seconds open calls may go on after stop: 30 if left out; from which number on calls tells of calls: 0 if left out; of which call it is told",
+    let what = Arg::new(alloc, "what").required(true).help(
+        "stop, reload, stats, calls, call, bindings, forget or refused",
+    );
+    let argument = Arg::new(alloc, "argument").help(
+        "for how many seconds open calls may go on after stop: 30 if left out; from which number on calls tells of calls: 0 if left out; of which call it is told; of which user's contacts bindings tells: of all if left out; which user's contacts are forgotten",
     );
     Command::new(alloc, "tell")
         .about(
-            "tells a proxy that runs to stop, to reload its configuration, to write its counters, or to tell of the calls that are open or of one call",
+            "tells a proxy that runs to stop, to reload its configuration, to write its counters, to tell of the calls that are open or of one call, of the contacts that are bound to users, or of the requests that it refused last, or to forget a user's contacts",
         )
         .arg(path)?
         .arg(what)?
-        .arg(number)
+        .arg(argument)
+}
+
+/// The command line that prints the line of a user.
+fn user_command<'a>(alloc: Global) -> Result<Command<'a>, AllocError> {
+    let name = Arg::new(alloc, "name")
+        .required(true)
+        .help("the name of the user");
+    let realm = Arg::new(alloc, "realm")
+        .required(true)
+        .help("the realm of the configuration");
+    Command::new(alloc, "user")
+        .about(
+            "reads a password, one line from standard input, and prints the line by which the file of the users knows it",
+        )
+        .arg(name)?
+        .arg(realm)
 }
 
 /// An argument that names a file.
@@ -77,6 +101,12 @@ fn with_files<'a>(alloc: Global, command: Command<'a>) -> Result<Command<'a>, Al
         ))?
         .arg(file_arg(
             alloc,
+            "users",
+            "FILE",
+            "the users and what their passwords are known by; needed where the configuration has a realm",
+        ))?
+        .arg(file_arg(
+            alloc,
             "control",
             "PATH",
             "the control socket's file; needed to serve",
@@ -91,7 +121,7 @@ fn with_files<'a>(alloc: Global, command: Command<'a>) -> Result<Command<'a>, Al
             alloc,
             "check-config",
             "FILE",
-            "reads a configuration, and says whether it is well-formed",
+            "reads a configuration, and says whether it is well-formed, with its users where they are named",
         ))
 }
 
@@ -104,6 +134,11 @@ fn with_limits<'a>(alloc: Global, command: Command<'a>) -> Result<Command<'a>, A
         .help(
             "how many calls are kept at most, and a tenth more for requests within dialogs: as many as half of the memory holds, if left out",
         );
+    let most_bindings = Arg::new(alloc, "most-bindings")
+        .long("most-bindings")
+        .value_name("N")
+        .value_parser(value_parser!(u32))
+        .help("how many contacts may be bound to the users in all: 1000000 if left out");
     let workers = Arg::new(alloc, "workers")
         .long("workers")
         .value_name("N")
@@ -132,6 +167,7 @@ fn with_limits<'a>(alloc: Global, command: Command<'a>) -> Result<Command<'a>, A
         .help("where the counters are scraped, by a GET of /metrics");
     command
         .arg(most_calls)?
+        .arg(most_bindings)?
         .arg(workers)?
         .arg(record_route)?
         .arg(own_port)?
@@ -146,7 +182,9 @@ fn command_line<'a>(alloc: Global) -> Result<Command<'a>, AllocError> {
         .about("a forking SIP proxy that serves until it is told to stop");
     let command = with_files(alloc, command)?;
     let command = with_limits(alloc, command)?;
-    command.subcommand(tell_command(alloc)?)
+    command
+        .subcommand(tell_command(alloc)?)?
+        .subcommand(user_command(alloc)?)
 }
 
 /// How many threads handle datagrams where the words do not say: as many as there are processors, 2 at least and 64 at most.
@@ -168,10 +206,10 @@ fn ended(rt: &HostRuntime, ran: Result<(), DaemonFault>) -> u8 {
     }
 }
 
-/// For how many seconds the answer to a word and a number is waited for: to end, that is as long as calls may go on, and 40 seconds more.
-fn longest_for(what: &str, number: &str) -> u64 {
+/// For how many seconds the answer to a word and what stands behind it is waited for: to end, that is as long as calls may go on, and 40 seconds more.
+fn longest_for(what: &str, argument: &str) -> u64 {
     if what == "stop" {
-        number
+        argument
             .parse::<u64>()
             .unwrap_or(0)
             .saturating_add(LONGEST_END)
@@ -184,17 +222,17 @@ fn longest_for(what: &str, number: &str) -> u64 {
 fn line_of(
     alloc: Global,
     what: &str,
-    number: Option<&str>,
+    argument: Option<&str>,
 ) -> Result<(String<Global>, Duration), AllocError> {
-    let number = if what == "stop" {
-        Some(number.unwrap_or(SECONDS))
+    let argument = if what == "stop" {
+        Some(argument.unwrap_or(SECONDS))
     } else {
-        number
+        argument
     };
-    match number {
-        Some(number) => {
-            let longest = Duration::from_secs(longest_for(what, number));
-            Ok((format!(in alloc; "{what} {number}")?, longest))
+    match argument {
+        Some(argument) => {
+            let longest = Duration::from_secs(longest_for(what, argument));
+            Ok((format!(in alloc; "{what} {argument}")?, longest))
         }
         None => {
             let longest = Duration::from_secs(LONGEST_ANSWER);
@@ -222,8 +260,8 @@ fn told(rt: &HostRuntime, matches: &ArgMatches<'_>) -> u8 {
     let (Some(path), Some(what)) = (matches.get_str("path"), matches.get_str("what")) else {
         return USAGE;
     };
-    let number = matches.get_str("number");
-    let Ok((line, limit)) = line_of(rt.alloc(), what, number) else {
+    let argument = matches.get_str("argument");
+    let Ok((line, limit)) = line_of(rt.alloc(), what, argument) else {
         return DaemonFault::NoMemory.status();
     };
     let mut answer = Vec::new(rt.alloc());
@@ -241,14 +279,62 @@ fn told(rt: &HostRuntime, matches: &ArgMatches<'_>) -> u8 {
     status_of(answer.as_slice())
 }
 
+/// What is typed, up to the end of its first line, and no more than is read of it.
+fn typed(rt: &HostRuntime) -> Result<Vec<u8>, AllocError> {
+    let mut bytes = Vec::new(rt.alloc());
+    let mut input = rt.reader();
+    let mut byte = [0u8; 1];
+    for _ in 0..MOST_TYPED {
+        match input.read(&mut byte) {
+            Ok(1) => bytes.push(byte[0])?,
+            _ => break,
+        }
+        if byte[0] == b'\n' {
+            break;
+        }
+    }
+    Ok(bytes)
+}
+
+/// The line of a user whose password is typed.
+fn line_typed(rt: &HostRuntime, matches: &ArgMatches<'_>) -> Result<Vec<u8>, UserLineFault> {
+    let name = matches.get_str("name").unwrap_or("");
+    let realm = matches.get_str("realm").unwrap_or("");
+    let typed = typed(rt)?;
+    user_line(rt.alloc(), name.as_bytes(), realm.as_bytes(), &typed)
+}
+
+/// Prints the line of a user whose password is typed.
+fn printed_user(rt: &HostRuntime, matches: &ArgMatches<'_>) -> u8 {
+    match line_typed(rt, matches) {
+        Ok(line) => {
+            let _ = rt.write_all(line.as_slice());
+            0
+        }
+        Err(UserLineFault::NoMemory) => DaemonFault::NoMemory.status(),
+        Err(fault) => {
+            let _ = rt.eprintln(fault);
+            1
+        }
+    }
+}
+
 /// Serves as the words say.
-fn served<R: Threads + Wait + Net + ProxyFiles + PageSockets + Clock + Print + Sync>(
-    handle: &R,
-    rt: &HostRuntime,
-    matches: &ArgMatches<'_>,
-) -> u8 {
+fn served<
+    R: Threads
+        + Wait
+        + Net
+        + ProxyFiles
+        + PageSockets
+        + Clock
+        + Print
+        + Eprint
+        + RandomSource
+        + Sync,
+>(handle: &R, rt: &HostRuntime, matches: &ArgMatches<'_>) -> u8 {
     if let Some(config) = matches.get_str("check-config") {
-        return ended(rt, check_config(rt, rt.alloc(), config));
+        let users = matches.get_str("users");
+        return ended(rt, check_config(rt, rt.alloc(), config, users));
     }
     let (Some(config), Some(control)) = (matches.get_str("config"), matches.get_str("control"))
     else {
@@ -261,9 +347,13 @@ fn served<R: Threads + Wait + Net + ProxyFiles + PageSockets + Clock + Print + S
     };
     let options = Options {
         config,
+        users: matches.get_str("users"),
         control,
         journal: matches.get_str("journal"),
         most_calls: matches.get_one::<u64>("most-calls"),
+        most_bindings: matches
+            .get_one::<u32>("most-bindings")
+            .unwrap_or(MOST_BINDINGS),
         workers,
         records: matches.get_flag("record-route"),
         own_port: matches.get_flag("own-port"),
@@ -274,17 +364,29 @@ fn served<R: Threads + Wait + Net + ProxyFiles + PageSockets + Clock + Print + S
 }
 
 /// Does what the words ask for; `handle` has the threads and the sockets.
-fn run<R: Threads + Wait + Net + ProxyFiles + PageSockets + Clock + Print + Sync>(
-    handle: &R,
-    rt: &HostRuntime,
-    words: &[String],
-) -> Result<u8, AllocError> {
+fn run<
+    R: Threads
+        + Wait
+        + Net
+        + ProxyFiles
+        + PageSockets
+        + Clock
+        + Print
+        + Eprint
+        + RandomSource
+        + Sync,
+>(handle: &R, rt: &HostRuntime, words: &[String]) -> Result<u8, AllocError> {
     let command = command_line(rt.alloc())?;
     match command.try_get_matches_from(words) {
-        Ok(matches) => Ok(match matches.subcommand_matches("tell") {
-            Some(matches) => told(rt, matches),
-            None => served(handle, rt, &matches),
-        }),
+        Ok(matches) => {
+            if let Some(matches) = matches.subcommand_matches("tell") {
+                return Ok(told(rt, matches));
+            }
+            if let Some(matches) = matches.subcommand_matches("user") {
+                return Ok(printed_user(rt, matches));
+            }
+            Ok(served(handle, rt, &matches))
+        }
         Err(error) => {
             let _ = error.print(rt);
             Ok(error.exit_code() as u8)

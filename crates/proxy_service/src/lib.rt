@@ -2,8 +2,9 @@
 //! call, what is due behind each, which calls are forgotten and written down, and when a service that is told to stop ends. It sends by
 //! whichever port it is handed; there is no socket, no thread and no file here.
 //!
-//! A [`Service`] has three parts: by what it goes (`settings`), for which requests it opens calls, and until when it serves (`admission`), and the
-//! calls that it keeps ([`ServiceCalls`]), each of which is looked at by a `Visit`.
+//! A [`Service`] has four parts: by what it goes (`settings`), for which requests it opens calls, and until when it serves (`admission`), what it
+//! knows of its users (`users`), and the calls that it keeps ([`ServiceCalls`]), each of which is looked at by a `Visit`. What it decides of a
+//! request by the first three stands in `service_users`.
 //!
 //! Begin with `Service::take` and `Service::tick`.
 #![tactic(auto)]

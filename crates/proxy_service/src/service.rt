@@ -2,13 +2,13 @@
 use crate::admission::ServiceAdmission;
 use crate::calls::ServiceCalls;
 use crate::settings::CurrentSettings;
-use crate::setup::setup_of;
+use crate::setup::configuration_of;
 use crate::terms::RunSettings;
 use crate::visit::Visit;
-use fork_call::Setup;
 use metrics::{Counts, Gauges};
 use service_admission::ServiceState;
-use service_files::{DaemonFault, JournalQueue};
+use service_files::{Configuration, DaemonFault, JournalQueue};
+use service_users::{Registry, ServiceUsers};
 use std::alloc::{AllocError, Allocator, Global};
 use std::mem;
 use std::sync::Wait;
@@ -23,16 +23,17 @@ pub struct Service<A: Allocator + Copy = Global> {
     /// The allocator of the configuration, and of what is made while a datagram is handled.
     pub(crate) alloc: A,
     /// The allocator of what is told.
-    heap: Global,
+    pub(crate) heap: Global,
     pub(crate) settings: CurrentSettings<A>,
     pub(crate) admission: ServiceAdmission,
+    pub(crate) users: ServiceUsers<A>,
     pub(crate) calls: ServiceCalls<A>,
     journal: JournalQueue,
     pub(crate) counts: Counts,
 }
 
 impl<A: Allocator + Copy> Service<A> {
-    /// A service without a call, by this setup. Calls and their deadlines, the configuration, and what is made while a datagram is
+    /// A service without a call and without a binding, by this configuration. Calls and their deadlines, the configuration, and what is made while a datagram is
     /// handled have their memory from `alloc`, all else from `heap`.
     ///
     /// # Errors
@@ -41,15 +42,18 @@ impl<A: Allocator + Copy> Service<A> {
     pub fn new(
         alloc: A,
         heap: Global,
-        setup: Setup<A>,
+        configuration: Configuration<A>,
         terms: RunSettings,
     ) -> Result<Service<A>, AllocError> {
         let calls = ServiceCalls::new(alloc, heap)?;
+        let registry = Registry::new(alloc, terms.most_bindings, terms.secret, terms.began)?;
+        let settings = CurrentSettings::new(alloc, configuration, terms)?;
         Ok(Service {
             alloc,
             heap,
-            settings: CurrentSettings::new(setup, terms),
+            settings,
             admission: ServiceAdmission::new(terms.most_calls),
+            users: ServiceUsers::new(heap, registry),
             calls,
             journal: JournalQueue::new(heap),
             counts: Counts::new(),
@@ -59,6 +63,11 @@ impl<A: Allocator + Copy> Service<A> {
     /// The calls that it keeps.
     pub fn calls(&self) -> &ServiceCalls<A> {
         &self.calls
+    }
+
+    /// What it has of its users.
+    pub fn users(&self) -> &ServiceUsers<A> {
+        &self.users
     }
 
     /// What it has counted since its start, to count on and to read: each counter may be added to by any thread.
@@ -110,15 +119,22 @@ impl<A: Allocator + Copy> Service<A> {
         self.admission.lifetime.is_in(state)
     }
 
-    /// Goes by the configuration that a text spells; calls keep what they were opened with.
+    /// Goes by the configuration that a text spells, and by the users that another one lists, where it has a realm; calls keep what they
+    /// were opened with, and no binding is taken away.
     ///
     /// # Errors
     ///
-    /// `TooLong` over 1,048,576 bytes; `Line` with the first malformed line; `Identity` where it has another address or instance; `NoMemory`
-    /// where the allocator refuses. Then the configuration before stays.
-    pub fn reload<R: Wait>(&self, rt: &R, text: &[u8]) -> Result<(), DaemonFault> {
-        let setup = setup_of(self.alloc, text, &self.settings.terms)?;
-        let old = mem::replace(&mut *self.settings.setup.write(rt), setup);
+    /// `TooLong` over 1,048,576 bytes; `Line` with the first malformed line; `Users` where a realm has no list of users, or a list no realm,
+    /// or with the first malformed line of the list; `Identity` where it has another address or instance; `NoMemory` where the allocator
+    /// refuses. Then the configuration before stays.
+    pub fn reload<R: Wait>(
+        &self,
+        rt: &R,
+        text: &[u8],
+        users: Option<&[u8]>,
+    ) -> Result<(), DaemonFault> {
+        let configuration = configuration_of(self.alloc, text, users, &self.settings.terms)?;
+        let old = mem::replace(&mut *self.settings.configuration.write(rt), configuration);
         // Its memory is given back here, where no lock is held.
         drop(old);
         Ok(())
@@ -138,6 +154,7 @@ impl<A: Allocator + Copy> Service<A> {
         let gauges = Gauges {
             seconds: now / MILLIS,
             held: self.calls.held(rt),
+            bindings: self.users.registry.count(rt),
             resident,
         };
         self.counts.text(self.heap, gauges)

@@ -1,38 +1,67 @@
 //! The configuration of a service.
 ghost use Rattle.std.specs.Prelude.{◌≡◌, ◌↔◌, IfErr, IfOk, IsTrue};
-ghost use Rattle.proxy_service.specs.Setups.{IsOf, IsReloadFault, IsServiceSetup, by_port_if, recording_if, service_setup};
+ghost use Rattle.std.specs.Option.{option_copied};
+ghost use Rattle.proxy_service.specs.Setups.{IsOf, IsReloadFault, IsServiceConfigured, by_port_if, recording_if, service_settings};
 
 use crate::terms::RunSettings;
 use fork_call::Setup;
-use service_files::{DaemonFault, Identity, read_text};
-use std::alloc::Allocator;
+use service_config::ServiceSettings;
+use service_files::{Configuration, DaemonFault, Identity, read_text};
+use std::alloc::{AllocError, Allocator};
 
-/// The setup with its own address counting as the domain with the own port alone, if that is asked for.
-fn by_port_if<A: Allocator + Clone>(setup: Setup<A>, own_port: bool) -> Setup<A>
-    ensures { result ≡ by_port_if own_port setup }
+/// The settings with the own address counting as the domain with the own port alone, if that is asked for.
+fn by_port_if<A: Allocator>(settings: ServiceSettings<A>, own_port: bool) -> ServiceSettings<A>
+    ensures { result ≡ by_port_if own_port settings }
 {
     if own_port {
-        setup.with_own_port()
+        settings.with_own_port()
     } else {
-        setup
+        settings
     }
 }
 
-/// The setup with a Record-Route line in each request that opens a dialog, if that is asked for.
-fn recording_if<A: Allocator + Clone>(setup: Setup<A>, records: bool) -> Setup<A>
-    ensures { result ≡ recording_if records setup }
+/// The settings with a Record-Route line in each request that opens a dialog, if that is asked for.
+fn recording_if<A: Allocator>(settings: ServiceSettings<A>, records: bool) -> ServiceSettings<A>
+    ensures { result ≡ recording_if records settings }
 {
-    if records { setup.recording() } else { setup }
+    if records {
+        settings.recording()
+    } else {
+        settings
+    }
 }
 
-/// A setup as a service goes by it: all Route values at the front of a request that lead to the proxy are taken away; a 100 has the
+/// Settings as a service goes by them: all Route values at the front of a request that lead to the proxy are taken away; a 100 has the
 /// Timestamp of its request, and a CANCEL says why; the own address counts as the domain with the own port alone, and a request that
-/// opens a dialog has a Record-Route line, where the terms say so.
-pub(crate) fn service_setup<A: Allocator + Clone>(setup: Setup<A>, terms: &RunSettings) -> Setup<A>
-    ensures { result ≡ service_setup terms.now setup }
+/// opens a dialog has a Record-Route line, where the terms say so. Where there is a realm there is that line, too, and credentials for it
+/// do not go on.
+fn service_settings<A: Allocator>(
+    alloc: A,
+    settings: ServiceSettings<A>,
+    terms: &RunSettings,
+) -> Result<ServiceSettings<A>, AllocError>
+    ensures { IfOk result (λ made. made ≡ service_settings terms.now settings) }
 {
-    let setup = setup.for_a_service().stamping().giving_reasons();
-    recording_if(by_port_if(setup, terms.own_port), terms.records)
+    let settings = settings.for_a_service().stamping().giving_reasons();
+    recording_if(by_port_if(settings, terms.own_port), terms.records).of_own_realm(alloc)
+}
+
+/// A configuration as a service goes by it.
+///
+/// # Errors
+///
+/// Only where the allocator refuses.
+pub(crate) fn service_configuration<A: Allocator>(
+    alloc: A,
+    configuration: Configuration<A>,
+    terms: &RunSettings,
+) -> Result<Configuration<A>, AllocError>
+    ensures settings { IfOk result (λ made. made.settings ≡ service_settings terms.now configuration.settings) }
+    ensures users { IfOk result (λ made. made.users ≡ configuration.users) }
+{
+    let Configuration { settings, users } = configuration;
+    let settings = service_settings(alloc, settings, terms)?;
+    Ok(Configuration { settings, users })
 }
 
 /// Whether a setup has this identity.
@@ -42,22 +71,23 @@ fn is_of<A: Allocator + Clone>(setup: &Setup<A>, identity: Identity) -> bool
     setup.own() == identity.own && setup.instance() == identity.instance
 }
 
-/// The setup that a text spells, for a service that keeps to these terms.
+/// The configuration that texts spell, of a service that keeps to these terms.
 ///
 /// # Errors
 ///
 /// Those of [`read_text`]; else `Identity` where it has another address or another instance.
-pub(crate) fn setup_of<A: Allocator + Clone>(
+pub(crate) fn configuration_of<A: Allocator + Clone>(
     alloc: A,
     text: &[u8],
+    users: Option<&[u8]>,
     terms: &RunSettings,
-) -> Result<Setup<A>, DaemonFault>
-    ensures ok { IfOk result (IsServiceSetup terms.now text.now) }
-    ensures fault { IfErr result (IsReloadFault terms.now text.now) }
+) -> Result<Configuration<A>, DaemonFault>
+    ensures ok { IfOk result (IsServiceConfigured terms.now text.now (option_copied users.entry)) }
+    ensures fault { IfErr result (IsReloadFault terms.now text.now (option_copied users.entry)) }
 {
-    let setup = read_text(alloc, text, terms.number)?;
-    if !is_of(&setup, terms.identity) {
+    let configuration = read_text(alloc.clone()?, text, users, terms.number)?;
+    if !is_of(configuration.settings.setup(), terms.identity) {
         return Err(DaemonFault::Identity);
     }
-    Ok(service_setup(setup, terms))
+    Ok(service_configuration(alloc, configuration, terms)?)
 }

@@ -4,6 +4,7 @@ use crate::visit::Visit;
 use fork_call::Port;
 use proxy_dispatch::{Handled, Received, SharedCalls, handle};
 use service_admission::is_keep_alive;
+use service_users::ServedAt;
 use std::alloc::{AllocError, Allocator};
 use std::sync::Wait;
 use std::time::Clock;
@@ -16,10 +17,19 @@ impl<A: Allocator + Copy> Service<A> {
         port: &mut P,
         received: Received<'_>,
     ) -> Result<Handled, AllocError> {
-        let places = self.admission.at(received.now);
-        let setup = self.settings.setup.read(rt);
+        let standing = self.settings.configuration.read(rt);
+        let configuration = &*standing;
+        let served = ServedAt {
+            places: self.admission.at(received.now),
+            view: self.users.registry.view(configuration, received.now),
+            users: &self.users,
+            schedule: self.calls.schedule(),
+            heap: self.heap,
+            counts: &self.counts.senders,
+        };
+        let setup = configuration.settings.setup();
         let mut calls = SharedCalls::new(&self.calls.shelf);
-        handle(rt, self.alloc, &mut calls, &*setup, &places, received, port)
+        handle(rt, self.alloc, &mut calls, setup, &served, received, port)
     }
 
     /// Counts what became of a datagram, and carries the call that it opened or that took it.

@@ -13,6 +13,12 @@ pub struct RunSettings {
     pub own_port: bool,
     /// How many calls it keeps that requests outside of dialogs opened, at most.
     pub most_calls: u64,
+    /// How many contacts may be bound to its users in all.
+    pub most_bindings: u32,
     /// Whether calls are written down at their end.
     pub has_journal: bool,
+    /// The millisecond since 1970 at which its moments begin.
+    pub began: u64,
+    /// What nonces and the tokens of dialogs are made with: bytes that nobody else has.
+    pub secret: [u8; 32],
 }

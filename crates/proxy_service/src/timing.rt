@@ -36,7 +36,8 @@ impl<A: Allocator + Copy> ServiceCalls<A> {
 }
 
 impl<A: Allocator + Copy> Service<A> {
-    /// Carries the calls that are due by now, in milliseconds, at most 4,096 of them; the others wait until the time is read anew.
+    /// Carries the calls that are due by now, in milliseconds, at most 4,096 of them; the others wait until the time is read anew. Once in ten
+    /// seconds users are forgotten of whom no binding is there any more.
     pub fn tick<R: Wait + Clock, P: Port>(&self, rt: &R, port: &mut P, now: u64) {
         let visit = self.visit(now);
         self.calls.walk_on(rt, port, &visit);
@@ -44,12 +45,18 @@ impl<A: Allocator + Copy> Service<A> {
             self.counts.calls.timers.add(1);
             self.calls.carry(rt, port, number, &visit);
         });
+        self.users.registry.sweep(rt, self.alloc, now);
     }
 
     /// Ends a service that drains where its time has come, and answers until when the thread that keeps the time may sleep where nothing is
     /// due before, in milliseconds: 18,446,744,073,709,551,615 where there is no limit.
     pub fn next_look<R: Wait>(&self, rt: &R, now: u64) -> u64 {
-        let walk = self.calls.walk.lock(rt).next();
+        let walk = self
+            .calls
+            .walk
+            .lock(rt)
+            .next()
+            .min(self.users.registry.next_sweep());
         let Some(draining) = self
             .admission
             .lifetime

@@ -3,7 +3,7 @@ use crate::holds::holds;
 use control_socket::{ControlCommand, read_command};
 use std::test::Fail;
 
-const LINES: [(&str, ControlCommand); 24] = [
+const LINES: [(&str, ControlCommand); 33] = [
     ("stop 0", ControlCommand::Stop(0)),
     ("stop 30", ControlCommand::Stop(30)),
     ("stop 86400", ControlCommand::Stop(86_400)),
@@ -30,6 +30,15 @@ const LINES: [(&str, ControlCommand); 24] = [
     ("call 0", ControlCommand::Call(0)),
     ("call 17", ControlCommand::Call(17)),
     ("call", ControlCommand::Unknown),
+    ("bindings", ControlCommand::Bindings),
+    ("bindings bob", ControlCommand::BindingsOf),
+    ("bindings ", ControlCommand::BindingsOf),
+    ("forget bob", ControlCommand::Forget),
+    ("forget", ControlCommand::Unknown),
+    ("forgetbob", ControlCommand::Unknown),
+    ("refused", ControlCommand::Refused),
+    ("refused ", ControlCommand::Unknown),
+    ("binding", ControlCommand::Unknown),
     ("", ControlCommand::Unknown),
 ];
 

@@ -45,6 +45,24 @@ impl ControlHandler for Program {
         Ok(format!(in self.alloc; "call {number}\n")?.into_bytes())
     }
 
+    fn bindings(&self) -> Result<Vec<u8>, io::Error> {
+        Ok(format!(in self.alloc; "bindings\n")?.into_bytes())
+    }
+
+    fn bindings_of(&self, user: &[u8]) -> Result<Vec<u8>, io::Error> {
+        let user = str::from_utf8(user).unwrap_or("");
+        Ok(format!(in self.alloc; "bindings of {user}\n")?.into_bytes())
+    }
+
+    fn forget(&self, user: &[u8]) -> Result<Vec<u8>, io::Error> {
+        let user = str::from_utf8(user).unwrap_or("");
+        Ok(format!(in self.alloc; "forget {user}\n")?.into_bytes())
+    }
+
+    fn refused(&self) -> Result<Vec<u8>, io::Error> {
+        Ok(format!(in self.alloc; "refused\n")?.into_bytes())
+    }
+
     fn has_ended(&self) -> bool {
         self.state.load(Ordering::SeqCst) != SERVING
     }
@@ -104,11 +122,15 @@ fn opened<R: Net + Files>(rt: &R, path: &str) -> io::Result<UnixListener> {
     UnixListener::bind(rt, path)
 }
 
-const LINES: [(&str, &str); 8] = [
+const LINES: [(&str, &str); 12] = [
     ("stats", "calls 0\n"),
     ("calls", "calls from 0\n"),
     ("calls 300", "calls from 300\n"),
     ("call 17", "call 17\n"),
+    ("bindings", "bindings\n"),
+    ("bindings bob", "bindings of bob\n"),
+    ("forget bob smith\r\nbehind it", "forget bob smith\n"),
+    ("refused", "refused\n"),
     ("else", "unknown\n"),
     (
         "GET / HTTP/1.1\r\nHost: x\r\n\r",

@@ -2,10 +2,11 @@
 use crate::holds::holds;
 use metrics::{Counts, Gauges};
 use service_admission::{CallQuota, is_keep_alive};
+use service_config::UsersFault;
 use service_files::{
-    DaemonFault, Identity, ProxyFiles, UnobeyedLine, calls_within, configuration_fault,
+    DaemonFault, Identity, ProxyFiles, calls_within, check_files, configuration_fault,
     control_fault, group_limit, journal_fault, memory_total, metrics_fault, most_calls_here,
-    read_setup, read_text, resident_bytes, resident_pages, socket_fault,
+    read_config, read_text, read_users, resident_bytes, resident_pages, socket_fault, users_fault,
 };
 use sip_uri::Transport;
 use sip_via::Own;
@@ -31,8 +32,8 @@ const OWN: Own = Own {
 
 /// The identity of a proxy that this text sets up, or why it sets up none.
 fn identity_of(alloc: Global, text: &[u8]) -> Result<Identity, DaemonFault> {
-    let setup = read_text(alloc, text, RUN)?;
-    Ok(Identity::of(&setup))
+    let configuration = read_text(alloc, text, None, RUN)?;
+    Ok(Identity::of(configuration.settings.setup()))
 }
 
 /// So many bytes that are no configuration.
@@ -85,24 +86,36 @@ fn a_run_is_the_instance_that_a_text_leaves_out(rt: HostRuntime) {
     }
 }
 
-/// Whether a configuration with this line, which is not obeyed yet, is refused by its name.
-fn is_unobeyed(alloc: Global, line: &str, unobeyed: UnobeyedLine) -> bool {
-    let Ok(text) = format!(in alloc; "own 127.0.0.1 47430\ndomain example.com\n{line}\n") else {
-        return false;
-    };
-    identity_of(alloc, text.as_bytes()) == Err(DaemonFault::Unobeyed(unobeyed))
+/// A configuration with a realm, and a list of its users.
+const OF_REALM: &[u8] = b"own 127.0.0.1 47430\ninstance 7\ndomain example.com\nrealm example.com\n";
+
+const USERS: &[u8] = b"# the office\nbob 2664cba6663a734ef3a6fefc0c0d0821 -\n";
+
+/// A list whose second line is malformed.
+const MALFORMED: &[u8] = b"\nbob -\n";
+
+/// Why a configuration with these users is refused, if it is.
+fn refused_for(alloc: Global, text: &[u8], users: Option<&[u8]>) -> Option<DaemonFault> {
+    match read_text(alloc, text, users, RUN) {
+        Ok(_) => None,
+        Err(fault) => Some(fault),
+    }
 }
 
 #[test]
-fn a_line_that_is_not_obeyed_is_refused(rt: HostRuntime) {
-    for (line, unobeyed) in [
-        ("realm example.com", UnobeyedLine::Realm),
-        ("expires 60 3600 7200", UnobeyedLine::Expires),
-        ("strangers", UnobeyedLine::Strangers),
-        ("trust 192.0.2.0/24", UnobeyedLine::Trust),
-        ("gateway 1000 sip:192.0.2.20", UnobeyedLine::Gateway),
-    ] {
-        holds(&rt, is_unobeyed(rt.alloc(), line, unobeyed), line);
+fn a_realm_has_a_list_of_users(rt: HostRuntime) {
+    let alloc = rt.alloc();
+    let rows: [(&[u8], Option<&[u8]>, Option<UsersFault>); 5] = [
+        (OF_REALM, Some(USERS), None),
+        (OF_REALM, None, Some(UsersFault::NoUsers)),
+        (OF_REALM, Some(MALFORMED), Some(UsersFault::Line(2))),
+        (CONFIGURATION, Some(USERS), Some(UsersFault::NoRealm)),
+        (CONFIGURATION, None, None),
+    ];
+    for (text, users, fault) in rows {
+        let expected = fault.map(|why| DaemonFault::Users(why));
+        let refused = refused_for(alloc, text, users);
+        holds(&rt, refused == expected, "the users of a realm");
     }
 }
 
@@ -111,7 +124,7 @@ fn a_fault_has_a_status(rt: HostRuntime) {
     for (fault, status) in [
         (DaemonFault::Unreadable, 1),
         (DaemonFault::Identity, 1),
-        (DaemonFault::Unobeyed(UnobeyedLine::Realm), 1),
+        (DaemonFault::Users(UsersFault::NoUsers), 1),
         (DaemonFault::NoMemory, 3),
         (DaemonFault::Socket, 5),
         (DaemonFault::Metrics, 5),
@@ -125,6 +138,12 @@ fn a_fault_has_a_status(rt: HostRuntime) {
 fn a_fault_of_the_system_is_told(rt: HostRuntime) {
     let refused = configuration_fault(io::Error::from(ErrorKind::NotFound));
     holds(&rt, refused == DaemonFault::Unreadable, "no file");
+    let refused = users_fault(io::Error::from(ErrorKind::NotFound));
+    holds(
+        &rt,
+        refused == DaemonFault::Users(UsersFault::Unreadable),
+        "no users",
+    );
     let refused = socket_fault(io::Error::from(ErrorKind::OutOfMemory));
     holds(&rt, refused == DaemonFault::NoMemory, "no memory");
     let refused = control_fault(io::Error::from(ErrorKind::AddrInUse));
@@ -138,24 +157,52 @@ fn a_fault_of_the_system_is_told(rt: HostRuntime) {
 /// A file in the folder in which the test runs.
 const FILE: &str = "daemon_parts_test_config";
 
-/// Why a proxy is not started by the file, if it is not.
-fn started_by<R: ProxyFiles>(rt: &R, alloc: Global) -> Option<DaemonFault> {
-    match read_setup(rt, alloc, FILE, RUN) {
-        Ok(_) => None,
+/// Why a proxy is not started by the files, of which that of the users may be missing, if it is not.
+fn refused_by<R: ProxyFiles>(rt: &R, alloc: Global, users: Option<&str>) -> Option<DaemonFault> {
+    match check_files(rt, alloc, FILE, users) {
+        Ok(()) => None,
         Err(fault) => Some(fault),
     }
 }
 
+/// Whether the files are read as they stand.
+fn are_read<R: ProxyFiles>(rt: &R, alloc: Global) -> bool {
+    let text = read_config(rt, alloc, FILE);
+    let users = read_users(rt, alloc, Some(FILE));
+    let is_text = match &text {
+        Ok(text) => text.as_slice() == OF_REALM,
+        Err(_) => false,
+    };
+    let are_users = match &users {
+        Ok(Some(text)) => text.as_slice() == OF_REALM,
+        Ok(None) | Err(_) => false,
+    };
+    is_text && are_users
+}
+
 #[test]
-fn a_file_is_read(rt: HostRuntime) {
+fn files_are_read(rt: HostRuntime) {
     let alloc = rt.alloc();
     let _ = fs::remove_file(&rt, FILE);
-    let missed = started_by(&rt, alloc);
+    let missed = refused_by(&rt, alloc, None);
     holds(&rt, missed == Some(DaemonFault::Unreadable), "no file");
-    for text in [CONFIGURATION, WITHOUT_INSTANCE] {
+    for text in [CONFIGURATION, WITHOUT_INSTANCE, OF_REALM] {
         holds(&rt, fs::write(&rt, FILE, text).is_ok(), "it is written");
-        holds(&rt, started_by(&rt, alloc).is_none(), "it starts a proxy");
+        holds(&rt, refused_by(&rt, alloc, None).is_none(), "it is taken");
     }
+    holds(&rt, are_read(&rt, alloc), "the bytes of the files");
+    let missed = refused_by(&rt, alloc, Some("daemon_parts_test_no_users"));
+    holds(
+        &rt,
+        missed == Some(DaemonFault::Users(UsersFault::Unreadable)),
+        "no file of users",
+    );
+    let missed = refused_by(&rt, alloc, Some(FILE));
+    holds(
+        &rt,
+        missed == Some(DaemonFault::Users(UsersFault::Line(1))),
+        "no users in the file",
+    );
     let _ = fs::remove_file(&rt, FILE);
 }
 
@@ -171,6 +218,7 @@ fn lines_in(alloc: Global, counts: &Counts, lines: &[&str]) -> usize {
     let gauges = Gauges {
         seconds: 3,
         held: 2,
+        bindings: 0,
         resident: Some(4_096),
     };
     match counts.text(alloc, gauges) {

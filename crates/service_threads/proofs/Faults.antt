@@ -1,5 +1,9 @@
 -- Each fault of a part is one of the whole.
-use Rattle.std.specs.Prelude.{◌≤◌, ℕ, List, length}
+use Rattle.std.specs.Prelude.{◌≤◌, ℕ, List, Option, Some, None, length}
+use Rattle.sip_digest.specs.declared.algorithm.Algorithms.{Algorithms}
+use Rattle.sip_digest.specs.declared.users.UserList.{UserList}
+use Rattle.service_files.specs.Configured.{AreUsers, IsConfigured, SpellsUsers, algorithms_in}
+use Rattle.service_files.specs.declared.setup.Configuration.{Configuration}
 use Rattle.service_files.specs.declared.fault.DaemonFault.{DaemonFault}
 use Rattle.service_files.specs.declared.fault.DaemonFault.TheVariants as fault
 use Rattle.service_files.specs.Faults.{most_text, IsConfigurationFault, IsControlFault, IsFaultOf, IsJournalFault, IsMetricsFault, IsSocketFault}
@@ -11,7 +15,8 @@ socket_is_system fault.NoMemory is = tt
 socket_is_system fault.Unreadable is = absurd is
 socket_is_system fault.TooLong is = absurd is
 socket_is_system (fault.Line n) is = absurd is
-socket_is_system (fault.Unobeyed l) is = absurd is
+socket_is_system (fault.Users why) is = absurd is
+socket_is_system fault.Random is = absurd is
 socket_is_system fault.Identity is = absurd is
 socket_is_system fault.Clock is = absurd is
 socket_is_system fault.Control is = absurd is
@@ -24,7 +29,8 @@ control_is_system fault.NoMemory is = tt
 control_is_system fault.Unreadable is = absurd is
 control_is_system fault.TooLong is = absurd is
 control_is_system (fault.Line n) is = absurd is
-control_is_system (fault.Unobeyed l) is = absurd is
+control_is_system (fault.Users why) is = absurd is
+control_is_system fault.Random is = absurd is
 control_is_system fault.Identity is = absurd is
 control_is_system fault.Clock is = absurd is
 control_is_system fault.Socket is = absurd is
@@ -38,7 +44,8 @@ metrics_is_system fault.NoMemory is = tt
 metrics_is_system fault.Unreadable is = absurd is
 metrics_is_system fault.TooLong is = absurd is
 metrics_is_system (fault.Line n) is = absurd is
-metrics_is_system (fault.Unobeyed l) is = absurd is
+metrics_is_system (fault.Users why) is = absurd is
+metrics_is_system fault.Random is = absurd is
 metrics_is_system fault.Identity is = absurd is
 metrics_is_system fault.Clock is = absurd is
 metrics_is_system fault.Socket is = absurd is
@@ -50,44 +57,62 @@ journal_is_system fault.NoMemory is = tt
 journal_is_system fault.Unreadable is = absurd is
 journal_is_system fault.TooLong is = absurd is
 journal_is_system (fault.Line n) is = absurd is
-journal_is_system (fault.Unobeyed l) is = absurd is
+journal_is_system (fault.Users why) is = absurd is
+journal_is_system fault.Random is = absurd is
 journal_is_system fault.Identity is = absurd is
 journal_is_system fault.Clock is = absurd is
 journal_is_system fault.Socket is = absurd is
 journal_is_system fault.Control is = absurd is
 journal_is_system fault.Metrics is = absurd is
 
-pub read_is_serve : (text : List ℕ) (number : ℕ) (f : DaemonFault) → IsFaultOf text number f → IsServeFaultOf text number f
-read_is_serve text number fault.TooLong is = is
-read_is_serve text number (fault.Line n) is = is
-read_is_serve text number (fault.Unobeyed l) is = is
-read_is_serve text number fault.NoMemory is = is
-read_is_serve text number fault.Unreadable is = absurd is
-read_is_serve text number fault.Identity is = absurd is
-read_is_serve text number fault.Clock is = absurd is
-read_is_serve text number fault.Socket is = absurd is
-read_is_serve text number fault.Control is = absurd is
-read_is_serve text number fault.Metrics is = absurd is
-read_is_serve text number fault.Journal is = absurd is
+spelled_users : {A : Type 0} (algorithms : Option Algorithms) (text : Option (List ℕ)) (list : Option (UserList A)) → AreUsers algorithms text list → SpellsUsers algorithms text
+spelled_users (Some a) (Some t) (Some l) are = (are.0, are.1)
+spelled_users (Some a) (Some t) None are = absurd are
+spelled_users (Some a) None None are = absurd are
+spelled_users (Some a) None (Some l) are = absurd are
+spelled_users None (Some t) None are = absurd are
+spelled_users None (Some t) (Some l) are = absurd are
+spelled_users None None None are = tt
+spelled_users None None (Some l) are = absurd are
 
-pub system_is_serve : (text : List ℕ) (number : ℕ) (f : DaemonFault) → length text ≤ most_text → Spells text number → IsSystemFault f → IsServeFaultOf text number f
-system_is_serve text number fault.NoMemory fits spells is = fits
-system_is_serve text number fault.Clock fits spells is = (fits, spells)
-system_is_serve text number fault.Socket fits spells is = (fits, spells)
-system_is_serve text number fault.Control fits spells is = (fits, spells)
-system_is_serve text number fault.Metrics fits spells is = (fits, spells)
-system_is_serve text number fault.Journal fits spells is = (fits, spells)
-system_is_serve text number fault.Unreadable fits spells is = absurd is
-system_is_serve text number fault.TooLong fits spells is = absurd is
-system_is_serve text number (fault.Line n) fits spells is = absurd is
-system_is_serve text number (fault.Unobeyed l) fits spells is = absurd is
-system_is_serve text number fault.Identity fits spells is = absurd is
+pub configured_spells : {A : Type 0} (text : List ℕ) (users : Option (List ℕ)) (number : ℕ) (configuration : Configuration A) → IsConfigured text users number configuration → Spells text users number
+configured_spells text users number configuration is =
+    (configuration.settings, is.settings, spelled_users (algorithms_in configuration.settings) users configuration.users is.users_are)
+
+pub read_is_serve : (text : List ℕ) (users : Option (List ℕ)) (number : ℕ) (f : DaemonFault) → IsFaultOf text users number f → IsServeFaultOf text users number f
+read_is_serve text users number fault.TooLong is = is
+read_is_serve text users number (fault.Line n) is = is
+read_is_serve text users number (fault.Users why) is = is
+read_is_serve text users number fault.Random is = absurd is
+read_is_serve text users number fault.NoMemory is = is
+read_is_serve text users number fault.Unreadable is = absurd is
+read_is_serve text users number fault.Identity is = absurd is
+read_is_serve text users number fault.Clock is = absurd is
+read_is_serve text users number fault.Socket is = absurd is
+read_is_serve text users number fault.Control is = absurd is
+read_is_serve text users number fault.Metrics is = absurd is
+read_is_serve text users number fault.Journal is = absurd is
+
+pub system_is_serve : (text : List ℕ) (users : Option (List ℕ)) (number : ℕ) (f : DaemonFault) → length text ≤ most_text → Spells text users number → IsSystemFault f → IsServeFaultOf text users number f
+system_is_serve text users number fault.NoMemory fits spells is = fits
+system_is_serve text users number fault.Clock fits spells is = (fits, spells)
+system_is_serve text users number fault.Socket fits spells is = (fits, spells)
+system_is_serve text users number fault.Control fits spells is = (fits, spells)
+system_is_serve text users number fault.Metrics fits spells is = (fits, spells)
+system_is_serve text users number fault.Journal fits spells is = (fits, spells)
+system_is_serve text users number fault.Unreadable fits spells is = absurd is
+system_is_serve text users number fault.TooLong fits spells is = absurd is
+system_is_serve text users number (fault.Line n) fits spells is = absurd is
+system_is_serve text users number (fault.Users why) fits spells is = absurd is
+system_is_serve text users number fault.Random fits spells is = (fits, spells)
+system_is_serve text users number fault.Identity fits spells is = absurd is
 
 pub configuration_is_serve : (f : DaemonFault) → IsConfigurationFault f → IsServeFault f
 configuration_is_serve fault.Unreadable is = tt
 configuration_is_serve fault.TooLong is = tt
 configuration_is_serve (fault.Line n) is = tt
-configuration_is_serve (fault.Unobeyed l) is = tt
+configuration_is_serve (fault.Users why) is = tt
+configuration_is_serve fault.Random is = tt
 configuration_is_serve fault.NoMemory is = tt
 configuration_is_serve fault.Clock is = tt
 configuration_is_serve fault.Socket is = tt
@@ -96,15 +121,16 @@ configuration_is_serve fault.Metrics is = tt
 configuration_is_serve fault.Journal is = tt
 configuration_is_serve fault.Identity is = absurd is
 
-pub text_is_serve : (text : List ℕ) (number : ℕ) (f : DaemonFault) → IsServeFaultOf text number f → IsServeFault f
-text_is_serve text number fault.Unreadable is = tt
-text_is_serve text number fault.TooLong is = tt
-text_is_serve text number (fault.Line n) is = tt
-text_is_serve text number (fault.Unobeyed l) is = tt
-text_is_serve text number fault.NoMemory is = tt
-text_is_serve text number fault.Clock is = tt
-text_is_serve text number fault.Socket is = tt
-text_is_serve text number fault.Control is = tt
-text_is_serve text number fault.Metrics is = tt
-text_is_serve text number fault.Journal is = tt
-text_is_serve text number fault.Identity is = absurd is
+pub text_is_serve : (text : List ℕ) (users : Option (List ℕ)) (number : ℕ) (f : DaemonFault) → IsServeFaultOf text users number f → IsServeFault f
+text_is_serve text users number fault.Unreadable is = tt
+text_is_serve text users number fault.TooLong is = tt
+text_is_serve text users number (fault.Line n) is = tt
+text_is_serve text users number (fault.Users why) is = tt
+text_is_serve text users number fault.Random is = tt
+text_is_serve text users number fault.NoMemory is = tt
+text_is_serve text users number fault.Clock is = tt
+text_is_serve text users number fault.Socket is = tt
+text_is_serve text users number fault.Control is = tt
+text_is_serve text users number fault.Metrics is = tt
+text_is_serve text users number fault.Journal is = tt
+text_is_serve text users number fault.Identity is = absurd is

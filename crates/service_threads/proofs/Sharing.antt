@@ -16,6 +16,7 @@ use Rattle.service_threads.proofs.idle.IdleWorkers.TheSendSync as idle
 use Rattle.service_threads.proofs.opening.Listeners.TheSendSync as listeners
 use Rattle.proxy_threads.proofs.packet.Packet.TheSendSync as packet
 use Rattle.service_threads.proofs.proxy.Paths.TheSendSync as paths
+use Rattle.service_threads.proofs.warnings.WarningWriter.TheSendSync as warnings
 use Rattle.service_threads.proofs.writer.JournalWriter.TheSendSync as journal
 use Rattle.proxy_threads.specs.contracts.groups.CallGroups as groups
 use Rattle.proxy_threads.specs.contracts.packet.Packet.{the_row as packet_row}
@@ -50,7 +51,7 @@ proxy_sync = struct_sync (shape proxy.the_type) (
     search service_sync,
     (
       hop.the_field_sync,
-      (epoch_sync, (receiving_sync, (journal.the_field_sync, (paths.the_field_sync, tt)))),
+      (epoch_sync, (receiving_sync, (journal.the_field_sync, (warnings.the_field_sync, (paths.the_field_sync, tt))))),
     ),
   ),
 )

@@ -1,8 +1,9 @@
 -- Why a proxy serves no longer, or not at all.
-use Rattle.std.specs.Prelude.{◌<◌, ◌≤◌, ℕ, List, length}
-use Rattle.proxy_config.specs.Setup.{Setup}
+use Rattle.std.specs.Prelude.{◌<◌, ◌≤◌, ℕ, List, Option, length}
 use Rattle.service_config.specs.Configuration.{IsMalformedAt}
-use Rattle.service_files.specs.Configured.{IsConfigured, IsUnobeyedIn}
+use Rattle.service_config.specs.Configuration.{IsServiceConfiguration}
+use Rattle.service_config.specs.Settings.{Settings}
+use Rattle.service_files.specs.Configured.{LacksUsers, SpellsUsers, algorithms_in}
 use Rattle.service_files.specs.declared.fault.DaemonFault.{DaemonFault}
 use Rattle.service_files.specs.declared.fault.DaemonFault.TheVariants as fault
 use Rattle.service_files.specs.Faults.{most_text}
@@ -11,32 +12,35 @@ use Rattle.service_files.specs.Faults.{most_text}
 abbrev pub IsSystemFault : DaemonFault → Type 0
 IsSystemFault fault.NoMemory = Unit {0}
 IsSystemFault fault.Clock = Unit {0}
+IsSystemFault fault.Random = Unit {0}
 IsSystemFault fault.Socket = Unit {0}
 IsSystemFault fault.Control = Unit {0}
 IsSystemFault fault.Metrics = Unit {0}
 IsSystemFault fault.Journal = Unit {0}
 IsSystemFault _ = ⊥
 
--- in a run with this number
-abbrev pub Spells : List ℕ → ℕ → Type 0
-Spells text number = (setup : Setup) × IsConfigured text number setup
+-- in a run with this number, with this list of users, if there is one
+abbrev pub Spells : List ℕ → Option (List ℕ) → ℕ → Type 0
+Spells text users number = (settings : Settings) × IsServiceConfiguration number text settings × SpellsUsers (algorithms_in settings) users
 
--- the text is not too long, and spells a setup in a run with this number
-abbrev pub IsRead : List ℕ → ℕ → Type 0
-IsRead text number = (length text ≤ most_text) × Spells text number
+-- the text is not too long, and spells what a service goes by in a run with this number
+abbrev pub IsRead : List ℕ → Option (List ℕ) → ℕ → Type 0
+IsRead text users number = (length text ≤ most_text) × Spells text users number
 
--- what each fault says of the text of the configuration: it is too long; it is not, and this is its first malformed line, or a line that is not obeyed yet; it was read
-abbrev pub IsServeFaultOf : List ℕ → ℕ → DaemonFault → Type 0
-IsServeFaultOf text number fault.TooLong = most_text < length text
-IsServeFaultOf text number (fault.Line n) = (length text ≤ most_text) × IsMalformedAt number text n
-IsServeFaultOf text number (fault.Unobeyed l) = (length text ≤ most_text) × IsUnobeyedIn text number l
-IsServeFaultOf text number fault.NoMemory = length text ≤ most_text
-IsServeFaultOf text number fault.Clock = IsRead text number
-IsServeFaultOf text number fault.Socket = IsRead text number
-IsServeFaultOf text number fault.Control = IsRead text number
-IsServeFaultOf text number fault.Metrics = IsRead text number
-IsServeFaultOf text number fault.Journal = IsRead text number
-IsServeFaultOf text number _ = ⊥
+-- what each fault says of the texts of the configuration and of its users: it is too long; it is not, and this is its first malformed line, or this is
+-- why its users cannot be had; they were read
+abbrev pub IsServeFaultOf : List ℕ → Option (List ℕ) → ℕ → DaemonFault → Type 0
+IsServeFaultOf text users number fault.TooLong = most_text < length text
+IsServeFaultOf text users number (fault.Line n) = (length text ≤ most_text) × IsMalformedAt number text n
+IsServeFaultOf text users number (fault.Users why) = (length text ≤ most_text) × LacksUsers text users number why
+IsServeFaultOf text users number fault.NoMemory = length text ≤ most_text
+IsServeFaultOf text users number fault.Clock = IsRead text users number
+IsServeFaultOf text users number fault.Random = IsRead text users number
+IsServeFaultOf text users number fault.Socket = IsRead text users number
+IsServeFaultOf text users number fault.Control = IsRead text users number
+IsServeFaultOf text users number fault.Metrics = IsRead text users number
+IsServeFaultOf text users number fault.Journal = IsRead text users number
+IsServeFaultOf text users number _ = ⊥
 
 -- only a configuration that is read anew has another identity
 abbrev pub IsServeFault : DaemonFault → Type 0

@@ -1,20 +1,14 @@
 //! What the control socket asks of a proxy.
-ghost use Rattle.std.specs.Prelude.{IfErr};
-ghost use Rattle.service_files.specs.Faults.{IsConfigurationFault};
-
 use crate::proxy::ServiceProxy;
 use control_socket::ControlHandler;
 use metrics::MetricsSource;
 use service_admission::ServiceState;
-use service_files::{DaemonFault, ProxyFiles, configuration_fault, resident_bytes};
+use service_files::{DaemonFault, ProxyFiles, read_config, read_users, resident_bytes};
 use std::alloc::Global;
 use std::io;
 use std::io::ErrorKind;
 use std::sync::Wait;
 use std::time::Clock;
-
-/// How many bytes a configuration has at most; of a longer file one more is read.
-const MOST_TEXT: usize = 1_048_576;
 
 /// A proxy under control.
 #[derive(Drop)]
@@ -23,26 +17,8 @@ pub(crate) struct Control<'a, R> {
     pub(crate) proxy: &'a ServiceProxy,
 }
 
-/// The text of a configuration's file; of one that is too long as much as tells so.
-///
-/// # Errors
-///
-/// `Unreadable` where the system refuses, and `NoMemory`.
-pub(crate) fn read_config<R: ProxyFiles>(
-    rt: &R,
-    alloc: Global,
-    path: &str,
-) -> Result<Vec<u8>, DaemonFault>
-    ensures { IfErr result IsConfigurationFault }
-{
-    match rt.read_file(alloc, path, MOST_TEXT) {
-        Ok(text) => Ok(text),
-        Err(error) => Err(configuration_fault(error)),
-    }
-}
-
 impl<'a, R: Wait + Clock + ProxyFiles> Control<'a, R> {
-    /// Reads the configuration anew; calls keep what they were opened with.
+    /// Reads the configuration and its users anew; calls keep what they were opened with.
     ///
     /// # Errors
     ///
@@ -50,7 +26,10 @@ impl<'a, R: Wait + Clock + ProxyFiles> Control<'a, R> {
     fn take_setup(&self) -> Result<(), DaemonFault> {
         let proxy = self.proxy;
         let text = read_config(self.rt, proxy.alloc, proxy.paths.config.as_str())?;
-        proxy.service.reload(self.rt, text.as_slice())
+        let users = read_users(self.rt, proxy.alloc, proxy.paths.users.as_deref())?;
+        proxy
+            .service
+            .reload(self.rt, text.as_slice(), users.as_deref())
     }
 
     /// The counters as they stand now, in the text form of Prometheus.
@@ -103,6 +82,41 @@ impl<'a, R: Wait + Clock + ProxyFiles> ControlHandler for Control<'a, R> {
         let now = proxy.millis(self.rt);
         let calls = proxy.service.calls();
         calls.append_call(self.rt, number, now, &mut text)?;
+        Ok(text)
+    }
+
+    fn bindings(&self) -> Result<Vec<u8>, io::Error> {
+        let proxy = self.proxy;
+        let mut text = Vec::new(proxy.alloc);
+        let now = proxy.millis(self.rt);
+        let registry = &proxy.service.users().registry;
+        registry.append_bindings(self.rt, now, &mut text)?;
+        Ok(text)
+    }
+
+    fn bindings_of(&self, user: &[u8]) -> Result<Vec<u8>, io::Error> {
+        let proxy = self.proxy;
+        let mut text = Vec::new(proxy.alloc);
+        let now = proxy.millis(self.rt);
+        let registry = &proxy.service.users().registry;
+        registry.append_bindings_of(self.rt, user, now, &mut text)?;
+        Ok(text)
+    }
+
+    fn forget(&self, user: &[u8]) -> Result<Vec<u8>, io::Error> {
+        let proxy = self.proxy;
+        let mut text = Vec::new(proxy.alloc);
+        let registry = &proxy.service.users().registry;
+        registry.forget_user(self.rt, user, &mut text)?;
+        Ok(text)
+    }
+
+    fn refused(&self) -> Result<Vec<u8>, io::Error> {
+        let proxy = self.proxy;
+        let mut text = Vec::new(proxy.alloc);
+        let now = proxy.millis(self.rt);
+        let last_refused = &proxy.service.users().last_refused;
+        last_refused.append(self.rt, now, &mut text)?;
         Ok(text)
     }
 

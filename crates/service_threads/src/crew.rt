@@ -8,7 +8,7 @@ use metrics::PageSockets;
 use service_files::{DaemonFault, ProxyFiles};
 use sockets::{Socket, is_shared};
 use std::alloc::Global;
-use std::io::Print;
+use std::io::{Eprint, Print};
 use std::sync::Wait;
 use std::thread;
 use std::thread::{Promise, PromisedHandle, Threads};
@@ -32,10 +32,13 @@ pub(crate) trait ServerThreads<S> {
     /// Writes the journal, if there is one, until it is whole.
     fn write<R: Wait + ProxyFiles + Clock>(&self, rt: &R);
 
+    /// Writes the warnings, until all that will be written waits.
+    fn warn<R: Wait + Eprint>(&self, rt: &R);
+
     /// Ends: the threads that work return.
     fn end(&self);
 
-    /// Lets the threads return that show the counters and write the journal, once no thread works any more: the calls that are left are
+    /// Lets the threads return that show the counters and write the journal and the warnings, once no thread works any more: the calls that are left are
     /// written down.
     fn finish<R: Wait + Clock>(&self, rt: &R);
 
@@ -132,10 +135,10 @@ fn work_and_close<C: ServerThreads<Socket> + Sync, R: Threads + Wait + Clock + S
     ran
 }
 
-/// Works until the end, while others show the counters and write the journal; it returns once they have ended, too.
+/// Works until the end, while others show the counters and write the journal and the warnings; it returns once they have ended, too.
 fn work_beside<
     C: ServerThreads<Socket> + Sync,
-    R: Threads + Wait + ProxyFiles + PageSockets + Clock + Sync,
+    R: Threads + Wait + ProxyFiles + PageSockets + Clock + Eprint + Sync,
 >(rt: &R, alloc: Global, crew: &C, socket: Socket, buffers: Vec<Vec<u8>>) -> Result<(), DaemonFault>
     ensures { IfErr result IsSystemFault }
 {
@@ -147,7 +150,8 @@ fn work_beside<
         {
             let shows = scope.spawn(move || crew.show(rt)).is_ok();
             let writes = scope.spawn(move || crew.write(rt)).is_ok();
-            let ran = if shows && writes {
+            let warns = scope.spawn(move || crew.warn(rt)).is_ok();
+            let ran = if shows && writes && warns {
                 work_and_close(rt, alloc, crew, socket, buffers)
             } else {
                 Err(DaemonFault::NoMemory)
@@ -163,7 +167,7 @@ fn work_beside<
 /// closed and written.
 pub(crate) fn run<
     C: ServerThreads<Socket> + Sync,
-    R: Threads + Wait + ProxyFiles + PageSockets + Clock + Print + Sync,
+    R: Threads + Wait + ProxyFiles + PageSockets + Clock + Print + Eprint + Sync,
 >(rt: &R, alloc: Global, crew: &C, socket: Socket, buffers: Vec<Vec<u8>>) -> Result<(), DaemonFault>
     ensures { IfErr result IsSystemFault }
 {

@@ -11,6 +11,7 @@ mod proxy;
 mod receiving;
 mod serving;
 mod timer;
+mod warnings;
 mod worker;
 mod writer;
 

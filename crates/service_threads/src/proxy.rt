@@ -1,10 +1,10 @@
 //! What the threads of a proxy share.
 use crate::receiving::Receiving;
+use crate::warnings::WarningWriter;
 use crate::writer::JournalWriter;
 use call_table::{Epoch, ThreadClock};
-use fork_call::Setup;
 use proxy_service::{RunSettings, Service};
-use service_files::{Identity, Options, ProxyFiles, most_calls_here};
+use service_files::{Configuration, Identity, Options, ProxyFiles, most_calls_here};
 use sip_uri::Hop;
 use std::alloc::{AllocError, Global};
 use std::time::Clock;
@@ -13,14 +13,19 @@ use std::time::Clock;
 #[derive(Drop)]
 pub(crate) struct Paths {
     pub(crate) config: String,
+    /// The file of the users, if there is one.
+    pub(crate) users: Option<String>,
     pub(crate) control: String,
 }
 
-/// How a proxy is started: as these options say, with this number of the run for a configuration that has no line of an instance.
+/// How a proxy is started: as these options say, at this millisecond since 1970, with this number of the run for a configuration that has
+/// no line of an instance, and with bytes that nobody else has.
 #[derive(Clone, Copy)]
 pub(crate) struct StartOptions<'a> {
     pub(crate) options: Options<'a>,
     pub(crate) number: u32,
+    pub(crate) began: u64,
+    pub(crate) secret: [u8; 32],
 }
 
 /// What the threads of a proxy share, beside its sockets.
@@ -33,13 +38,23 @@ pub(crate) struct ServiceProxy {
     pub(crate) epoch: Epoch,
     pub(crate) receiving: Receiving,
     pub(crate) journal: JournalWriter,
+    pub(crate) warnings: WarningWriter,
     pub(crate) paths: Paths,
+}
+
+/// A path, if there is one.
+fn path_of(alloc: Global, path: Option<&str>) -> Result<Option<String>, AllocError> {
+    match path {
+        Some(path) => Ok(Some(String::from_str(alloc, path)?)),
+        None => Ok(None),
+    }
 }
 
 /// The paths that options name.
 fn paths_of(alloc: Global, options: Options<'_>) -> Result<Paths, AllocError> {
     Ok(Paths {
         config: String::from_str(alloc, options.config)?,
+        users: path_of(alloc, options.users)?,
         control: String::from_str(alloc, options.control)?,
     })
 }
@@ -49,11 +64,11 @@ fn terms_of<R: ProxyFiles>(
     rt: &R,
     alloc: Global,
     start: StartOptions<'_>,
-    setup: &Setup<Global>,
+    configuration: &Configuration,
 ) -> RunSettings {
     let options = start.options;
     RunSettings {
-        identity: Identity::of(setup),
+        identity: Identity::of(configuration.settings.setup()),
         number: start.number,
         records: options.records,
         own_port: options.own_port,
@@ -61,7 +76,10 @@ fn terms_of<R: ProxyFiles>(
             Some(most) => most,
             None => most_calls_here(rt, alloc),
         },
+        most_bindings: options.most_bindings,
         has_journal: options.journal.is_some(),
+        began: start.began,
+        secret: start.secret,
     }
 }
 
@@ -75,21 +93,22 @@ impl ServiceProxy {
         rt: &R,
         alloc: Global,
         start: StartOptions<'_>,
-        setup: Setup<Global>,
+        configuration: Configuration,
         own: Hop,
         epoch: Epoch,
     ) -> Result<ServiceProxy, AllocError> {
-        let terms = terms_of(rt, alloc, start, &setup);
+        let terms = terms_of(rt, alloc, start, &configuration);
         let receiving = Receiving::new(alloc, start.options.most_per_source)?;
         let journal = JournalWriter::new(alloc, start.options.journal)?;
         let paths = paths_of(alloc, start.options)?;
         Ok(ServiceProxy {
             alloc,
-            service: Service::new(alloc, alloc, setup, terms)?,
+            service: Service::new(alloc, alloc, configuration, terms)?,
             own,
             epoch,
             receiving,
             journal,
+            warnings: WarningWriter::new(),
             paths,
         })
     }

@@ -3,28 +3,33 @@ ghost use denote.Param.Send.{IsSync};
 ghost use Rattle.service_threads.specs.contracts.serving.Server.{the_row as server_row};
 ghost use Rattle.std.specs.Prelude.{◌≡◌, ◌/◌, ◌%◌, ◌^◌, ◌↔◌, ◌<◌, length, IfErr, OnOk, IsErrOf};
 ghost use Rattle.std.specs.Duration.{as_nanos};
+ghost use Rattle.std.specs.Option.{option_copied};
 ghost use Rattle.service_files.specs.declared.fault.DaemonFault.TheVariants as faults;
 ghost use Rattle.service_files.specs.Faults.{most_text, IsConfigurationFault};
 ghost use Rattle.service_threads.specs.Faults.{IsServeFault, IsServeFaultOf, IsSystemFault, Spells};
 
-use crate::control::{Control, read_config};
+use crate::control::Control;
 use crate::crew::{ServerThreads, run};
 use crate::opening::{Listeners, bound, buffers_of, open_all};
 use crate::proxy::{ServiceProxy, StartOptions};
 use call_table::Epoch;
 use control_socket::listen;
-use fork_call::Setup;
 use libc::net;
 use libc::types::pollfd;
 use metrics::{PageSockets, answer_scrapers};
 use proxy_threads::own_of;
-use service_files::{DaemonFault, Options, ProxyFiles, read_setup, read_text};
+use service_config::ServiceSettings;
+use service_files::{
+    Configuration, DaemonFault, Options, ProxyFiles, check_files, read_config, read_text,
+    read_users,
+};
 use sip_uri::Hop;
 use sockets::{Socket, is_shared, print_listening};
 use std::alloc::Global;
-use std::io::Print;
+use std::io::{Eprint, Print};
 use std::net::Net;
 use std::os::fd::AsRawFd;
+use std::random::RandomSource;
 use std::sync::Wait;
 use std::thread::Threads;
 use std::time::{Clock, Duration, SystemTime};
@@ -85,6 +90,10 @@ impl ServerThreads<Socket> for Server {
         self.proxy.journal.write(rt, &self.proxy.service);
     }
 
+    fn warn<R: Wait + Eprint>(&self, rt: &R) {
+        self.proxy.warnings.write(rt, &self.proxy.service);
+    }
+
     fn end(&self) {
         self.proxy.service.end();
     }
@@ -93,6 +102,7 @@ impl ServerThreads<Socket> for Server {
         let service = &self.proxy.service;
         service.write_down_left(rt);
         self.proxy.journal.end(service.journal());
+        self.proxy.warnings.end(&service.users().warnings);
         if let Some(listener) = &self.listeners.metrics {
             let _ = net::shutdown(listener.as_raw_fd(), net::SHUT_RDWR);
         }
@@ -121,7 +131,7 @@ fn server_is_shared(server: &Server)
 }
 
 /// Tells where the proxy listens, and lets it run until the end.
-fn run_server<R: Threads + Wait + ProxyFiles + PageSockets + Clock + Print + Sync>(
+fn run_server<R: Threads + Wait + ProxyFiles + PageSockets + Clock + Print + Eprint + Sync>(
     rt: &R,
     server: &Server,
     socket: Socket,
@@ -139,7 +149,7 @@ fn run_server<R: Threads + Wait + ProxyFiles + PageSockets + Clock + Print + Syn
 fn server_of<R: Clock + ProxyFiles + PageSockets>(
     rt: &R,
     alloc: Global,
-    setup: Setup<Global>,
+    configuration: Configuration,
     start: StartOptions<'_>,
     own: Hop,
 ) -> Result<Server, DaemonFault>
@@ -148,7 +158,7 @@ fn server_of<R: Clock + ProxyFiles + PageSockets>(
     let Some(epoch) = Epoch::now(rt) else {
         return Err(DaemonFault::Clock);
     };
-    let Ok(proxy) = ServiceProxy::new(rt, alloc, start, setup, own, epoch) else {
+    let Ok(proxy) = ServiceProxy::new(rt, alloc, start, configuration, own, epoch) else {
         return Err(DaemonFault::NoMemory);
     };
     match open_all(rt, start.options) {
@@ -157,60 +167,117 @@ fn server_of<R: Clock + ProxyFiles + PageSockets>(
     }
 }
 
-/// Serves as a setup says, at its address, which is taken first.
-fn serve_setup<R: Threads + Wait + Net + ProxyFiles + PageSockets + Clock + Print + Sync>(
+/// Tells on the standard error that only this machine is served, where no line says of others that they are trusted, or who they are.
+fn tell_whom_it_serves<R: Eprint>(rt: &R, settings: &ServiceSettings<Global>) {
+    if settings.nets().is_empty() && settings.realm().is_none() {
+        let _ = rt.eprintln(
+            "neither trust nor realm stands in the configuration: requests from other machines are refused",
+        );
+    }
+}
+
+/// Serves as a configuration says, at its address, which is taken first.
+fn serve_configuration<
+    R: Threads + Wait + Net + ProxyFiles + PageSockets + Clock + Print + Eprint + Sync,
+>(
     rt: &R,
     alloc: Global,
-    setup: Setup<Global>,
+    configuration: Configuration,
     start: StartOptions<'_>,
 ) -> Result<(), DaemonFault>
     ensures { IfErr result IsSystemFault }
 {
-    let own = own_of(&setup);
+    tell_whom_it_serves(rt, &configuration.settings);
+    let own = own_of(configuration.settings.setup());
     let socket = bound(rt, own)?;
     let Ok(buffers) = buffers_of(alloc, start.options.workers.max(1)) else {
         return Err(DaemonFault::NoMemory);
     };
-    match server_of(rt, alloc, setup, start, own) {
+    match server_of(rt, alloc, configuration, start, own) {
         Ok(server) => run_server(rt, &server, socket, buffers),
         Err(fault) => Err(fault),
     }
 }
 
-/// Reads a configuration's file, and answers whether a proxy would serve by it. Where it has no line of an instance, none is missing.
+/// Reads a configuration's file and that of its users, and answers whether a proxy would serve by them; where no file of users is named,
+/// whether the configuration alone is well-formed. Where it has no line of an instance, none is missing.
 ///
 /// # Errors
 ///
-/// `Unreadable` where the system refuses; `TooLong` over 1,048,576 bytes; `Line` with the first malformed line; `Unobeyed` with a line that
-/// is not obeyed yet; `NoMemory`.
-pub fn check_config<R: ProxyFiles>(rt: &R, alloc: Global, config: &str) -> Result<(), DaemonFault>
+/// `Unreadable` where the system refuses; `TooLong` over 1,048,576 bytes; `Line` with the first malformed line; `Users` where the users
+/// cannot be had; `NoMemory`.
+pub fn check_config<R: ProxyFiles>(
+    rt: &R,
+    alloc: Global,
+    config: &str,
+    users: Option<&str>,
+) -> Result<(), DaemonFault>
     ensures { IfErr result IsConfigurationFault }
 {
-    let setup = read_setup(rt, alloc, config, 0)?;
-    drop(setup);
-    Ok(())
+    check_files(rt, alloc, config, users)
 }
 
-/// Serves as [`serve`] does, by this text of a configuration; `reload` reads the configuration's file. Where a text has no line of an
-/// instance, this number of the run is its instance.
+/// How a run begins: with these options and this number, at this moment, with a secret of its own.
+fn start_of<'a, R: Clock + RandomSource>(
+    rt: &R,
+    options: Options<'a>,
+    number: u32,
+) -> Result<StartOptions<'a>, DaemonFault>
+    ensures { IfErr result IsSystemFault }
+{
+    let mut secret = [0u8; 32];
+    if rt.fill_bytes(&mut secret).is_err() {
+        return Err(DaemonFault::Random);
+    }
+    Ok(StartOptions {
+        options,
+        number,
+        began: millis_since_1970(rt),
+        secret,
+    })
+}
+
+/// Serves as [`serve`] does, by these texts of a configuration and of its users, if there are any; `reload` reads their files. Where a
+/// configuration has no line of an instance, this number of the run is its instance.
 ///
 /// # Errors
 ///
 /// Those of [`serve`] but for `Unreadable`.
-#[tactic(auto, using(crate::proofs::Faults::read_is_serve, crate::proofs::Faults::system_is_serve))]
-pub fn serve_text<R: Threads + Wait + Net + ProxyFiles + PageSockets + Clock + Print + Sync>(
+#[tactic(auto, using(crate::proofs::Faults::configured_spells, crate::proofs::Faults::read_is_serve, crate::proofs::Faults::system_is_serve))]
+pub fn serve_text<
+    R: Threads
+        + Wait
+        + Net
+        + ProxyFiles
+        + PageSockets
+        + Clock
+        + Print
+        + Eprint
+        + RandomSource
+        + Sync,
+>(
     rt: &R,
     alloc: Global,
     text: &[u8],
+    users: Option<&[u8]>,
     number: u32,
     options: Options<'_>,
 ) -> Result<(), DaemonFault>
-    ensures served { OnOk result (Spells text.now number) }
+    ensures served { OnOk result (Spells text.now (option_copied users.entry) number) }
     ensures too_long { IsErrOf result faults.TooLong ↔ (most_text < length text.now) }
-    ensures fault { IfErr result (IsServeFaultOf text.now number) }
+    ensures fault { IfErr result (IsServeFaultOf text.now (option_copied users.entry) number) }
 {
-    let setup = read_text(alloc, text, number)?;
-    serve_setup(rt, alloc, setup, StartOptions { options, number })
+    let configuration = read_text(alloc, text, users, number)?;
+    let start = start_of(rt, options, number)?;
+    serve_configuration(rt, alloc, configuration, start)
+}
+
+/// How many milliseconds have passed since the beginning of 1970; 0 where the clock cannot be read.
+fn millis_since_1970<R: Clock>(rt: &R) -> u64 {
+    match SystemTime::UNIX_EPOCH.elapsed(rt) {
+        Ok(passed) => passed.as_millis().min(u128::from(u64::MAX)) as u64,
+        Err(_) => 0,
+    }
 }
 
 /// The number of a run that begins so long after the beginning of 1970: the milliseconds, without what is beyond 32 bits. Two runs have the
@@ -241,14 +308,29 @@ fn number_of_run<R: Clock>(rt: &R) -> u32 {
 /// `Control` where the control socket cannot be made, or another proxy has it; `NoMemory` where the allocator refuses or a thread could not
 /// be made. A proxy that is refused has taken nothing of another one.
 #[tactic(auto, using(crate::proofs::Faults::configuration_is_serve, crate::proofs::Faults::text_is_serve))]
-pub fn serve<R: Threads + Wait + Net + ProxyFiles + PageSockets + Clock + Print + Sync>(
-    rt: &R,
-    alloc: Global,
-    options: Options<'_>,
-) -> Result<(), DaemonFault>
+pub fn serve<
+    R: Threads
+        + Wait
+        + Net
+        + ProxyFiles
+        + PageSockets
+        + Clock
+        + Print
+        + Eprint
+        + RandomSource
+        + Sync,
+>(rt: &R, alloc: Global, options: Options<'_>) -> Result<(), DaemonFault>
     ensures { IfErr result IsServeFault }
 {
     let number = number_of_run(rt);
     let text = read_config(rt, alloc, options.config)?;
-    serve_text(rt, alloc, text.as_slice(), number, options)
+    let users = read_users(rt, alloc, options.users)?;
+    serve_text(
+        rt,
+        alloc,
+        text.as_slice(),
+        users.as_deref(),
+        number,
+        options,
+    )
 }
