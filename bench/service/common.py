@@ -3,6 +3,7 @@ counts and what it takes. They need root (or leave to make a network), `unshare`
 `./forkproxy prove forkproxyd` leaves it as out/forkproxyd. A machine does other work beside: so figures of one run are set against each other,
 and it is said beside them how many processors the other work took."""
 import atexit
+import glob
 import os
 import resource
 import select
@@ -102,6 +103,20 @@ def machine_busy():
 def processor_time(pid):
     """The processor seconds that a process and its threads have taken, to the nanosecond."""
     return time.clock_gettime((~pid << 3) | 2)
+
+
+def below(pid):
+    """The processes that a process has begun."""
+    found = []
+    for path in glob.glob("/proc/[0-9]*/stat"):
+        try:
+            with open(path) as file:
+                fields = file.read().rsplit(")", 1)[1].split()
+        except OSError:
+            continue
+        if int(fields[1]) == pid:
+            found.append(int(path.split("/")[2]))
+    return found
 
 
 def memory(pid):
