@@ -1,5 +1,5 @@
 -- The configuration of a proxy: what its text sets a service up with, and who has a password, by the list of users that goes with a realm.
-use Rattle.std.specs.Prelude.{◌≡◌, ℕ, List, Option, Some, None}
+use Rattle.std.specs.Prelude.{ℕ, List, Option, Some, None}
 use Rattle.std.specs.Option.{option_map}
 use Rattle.service_config.specs.Configuration.{IsServiceConfiguration}
 use Rattle.service_config.specs.Settings.{Realm, Settings}

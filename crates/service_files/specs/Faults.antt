@@ -1,5 +1,5 @@
 -- Why a proxy does not serve, or serves no longer.
-use Rattle.std.specs.Prelude.{◌<◌, ◌≤◌, ℕ, List, Option, Some, None, length}
+use Rattle.std.specs.Prelude.{◌<◌, ◌≤◌, ℕ, List, Option, length}
 use Rattle.service_config.specs.Configuration.{IsMalformedAt}
 use Rattle.service_config.specs.declared.users_fault.UsersFault.{UsersFault}
 use Rattle.service_config.specs.declared.users_fault.UsersFault.TheVariants as users

@@ -1,5 +1,5 @@
 //! The configuration of a proxy, as it is read at its start and anew while it serves.
-ghost use Rattle.std.specs.Prelude.{◌≡◌, ◌<◌, ◌↔◌, length, IfErr, IfOk, IsErrOf};
+ghost use Rattle.std.specs.Prelude.{◌≡◌, ◌<◌, ◌≤◌, ◌↔◌, length, IfErr, IfOk, IsErrOf, OnOk};
 ghost use Rattle.std.specs.Option.{option_copied};
 ghost use Rattle.service_files.specs.declared.fault.DaemonFault.TheVariants as faults;
 ghost use Rattle.service_config.specs.Configuration.{IsServiceConfiguration};
@@ -89,6 +89,7 @@ fn settings_in<A: Allocator + Clone>(
     number: u32,
 ) -> Result<ServiceSettings<A>, DaemonFault>
     ensures ok { IfOk result (IsServiceConfiguration number text.now) }
+    ensures fits { OnOk result (length text.now ≤ most_text) }
     ensures too_long { IsErrOf result faults.TooLong ↔ (most_text < length text.now) }
     ensures fault { IfErr result (IsSettingsFaultOf text.now number) }
 {
