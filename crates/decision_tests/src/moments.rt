@@ -81,7 +81,7 @@ fn reaches(made: Made, user: &[u8], wanted: &[(&[u8], Hop)]) -> bool {
     let mut well = setup.locations().len() == wanted.len();
     for (location, (key, hop)) in setup.locations().iter().zip(wanted) {
         well = well
-            && location.is_of(user)
+            && location.user() == user
             && location.key() == *key
             && location.next_hop() == Some(*hop);
     }
