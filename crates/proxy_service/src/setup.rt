@@ -76,7 +76,7 @@ fn is_of<A: Allocator + Clone>(setup: &Setup<A>, identity: Identity) -> bool
 /// # Errors
 ///
 /// Those of [`read_text`]; else `Identity` where it has another address or another instance.
-pub(crate) fn configuration_of<A: Allocator + Clone>(
+pub(crate) fn configuration_of<A: Allocator + Copy>(
     alloc: A,
     text: &[u8],
     users: Option<&[u8]>,
@@ -85,7 +85,7 @@ pub(crate) fn configuration_of<A: Allocator + Clone>(
     ensures ok { IfOk result (IsServiceConfigured terms.now text.now (option_copied users.entry)) }
     ensures fault { IfErr result (IsReloadFault terms.now text.now (option_copied users.entry)) }
 {
-    let configuration = read_text(alloc.clone()?, text, users, terms.number)?;
+    let configuration = read_text(alloc, text, users, terms.number)?;
     if !is_of(configuration.settings.setup(), terms.identity) {
         return Err(DaemonFault::Identity);
     }
