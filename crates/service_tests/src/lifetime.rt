@@ -1,6 +1,6 @@
 //! Where a service stands, and for what it keeps places: how long it opens calls, and what waits to be written.
 use crate::holds::holds;
-use proxy_dispatch::{Admission, Opener};
+use proxy_dispatch::Opener;
 use service_admission::{Lifetime, Quota, QuotaAt, Seen, ServiceState};
 use service_files::JournalQueue;
 use std::alloc::Global;
@@ -76,7 +76,7 @@ fn gets<R: Wait>(rt: &R, quota: &Quota, lifetime: &Lifetime, now: u64) -> bool {
         lifetime,
         now,
     };
-    Admission::<Global>::admits(&places, rt, Opener::OutsideDialog)
+    places.admits(rt, Opener::OutsideDialog)
 }
 
 /// Checks what becomes of the one place that there is.

@@ -303,10 +303,11 @@ fn number_of_run<R: Clock>(rt: &R) -> u32 {
 ///
 /// # Errors
 ///
-/// The configuration's faults as [`check_config`] finds them; `Socket` where the address cannot be bound or a receive failed; `Clock`
-/// where the clock cannot be read; `Journal` where the journal cannot be opened; `Metrics` where the address for scrapers cannot be bound;
-/// `Control` where the control socket cannot be made, or another proxy has it; `NoMemory` where the allocator refuses or a thread could not
-/// be made. A proxy that is refused has taken nothing of another one.
+/// The configuration's faults as [`check_config`] finds them, and `Users` for a realm without a file of users; `Random` where the system
+/// has no random bytes; `Socket` where the address cannot be bound or a receive failed; `Clock` where the clock cannot be read; `Journal`
+/// where the journal cannot be opened; `Metrics` where the address for scrapers cannot be bound; `Control` where the control socket
+/// cannot be made, or another proxy has it; `NoMemory` where the allocator refuses or a thread could not be made. A proxy that is refused
+/// has taken nothing of another one.
 #[tactic(auto, using(crate::proofs::Faults::configuration_is_serve, crate::proofs::Faults::text_is_serve))]
 pub fn serve<
     R: Threads
