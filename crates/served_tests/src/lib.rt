@@ -11,6 +11,8 @@ mod holds;
 #[cfg(test)]
 mod outgoing;
 #[cfg(test)]
+mod plain;
+#[cfg(test)]
 mod told;
 #[cfg(test)]
 mod turns;
