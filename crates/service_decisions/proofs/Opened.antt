@@ -13,15 +13,15 @@ use Rattle.service_decisions.specs.Targets.{Beyond, Nowhere, OfUser, Place, boun
 use Rattle.service_decisions.specs.Served.{IsPlain, by_gateways, opened_at, opened_by}
 use Rattle.service_decisions.specs.Serving.{Serving}
 
-pub opened_so : (serving : Serving) (setup : Setup) (rule : Rule) (m : MessageText) (source : Hop) (place : Place) (held : List Binding) (contacts : List BoundContact) (by : Bool) (moment : Setup)
-    → place ≡ place_of setup rule m → contacts ≡ map bound_contact (there serving.moment held) → by ≡ by_gateways serving rule source place
-    → moment ≡ setup_for setup serving.settings.gateways by place contacts serving.token m → moment ≡ opened_by serving setup rule m source held
-opened_so serving setup rule m source place held contacts by moment p c b e =
-    let gateways = serving.settings.gateways in
+pub opened_so : (serving : Serving) (setup : Setup) (rule : Rule) (m : MessageText) (source : Hop) (place : Place) (held : List Binding) (gateways : List Gateway) (by : Bool) (contacts : List BoundContact) (token : Option DialogToken) (moment : Setup)
+    → gateways ≡ serving.settings.gateways → by ≡ by_gateways serving rule source place → contacts ≡ map bound_contact (there serving.moment held) → token ≡ serving.token
+    → moment ≡ setup_for setup gateways by place contacts token m → moment ≡ opened_at serving setup rule m source place held
+opened_so serving setup rule m source place held gateways by contacts token moment g b c t e =
     e
-    ∙ ap (λ (x : Bool). setup_for setup gateways x place contacts serving.token m) b
-    ∙ ap (λ (x : List BoundContact). setup_for setup gateways (by_gateways serving rule source place) place x serving.token m) c
-    ∙ ap (λ (x : Place). opened_at serving setup rule m source x held) p
+    ∙ ap (λ (x : List Gateway). setup_for setup x by place contacts token m) g
+    ∙ ap (λ (x : Bool). setup_for setup serving.settings.gateways x place contacts token m) b
+    ∙ ap (λ (x : List BoundContact). setup_for setup serving.settings.gateways (by_gateways serving rule source place) place x token m) c
+    ∙ ap (λ (x : Option DialogToken). setup_for setup serving.settings.gateways (by_gateways serving rule source place) place (map bound_contact (there serving.moment held)) x m) t
 
 -- ---- where nothing counts
 
@@ -29,9 +29,9 @@ either_none : (b : Bool) (user : List ℕ) → (if b then map (gateway_contact u
 either_none true user = refl
 either_none false user = refl
 
-no_token : (b : Bool) (none : Option DialogToken) → none ≡ None → (if b then none else None) ≡ None
-no_token true none e = e
-no_token false none e = refl
+no_token : (b : Bool) (token : Option DialogToken) → token ≡ None → (if b then token else None) ≡ None
+no_token true token e = e
+no_token false token e = refl
 
 nowhere : (setup : Setup) (b : Bool) (place : Place) → reached_at setup [] b place [] ≡ []
 nowhere setup b (OfUser user) = either_none _ user

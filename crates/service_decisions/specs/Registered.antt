@@ -1,5 +1,5 @@
 -- What becomes of a REGISTER for the domain of a service (RFC 3261 section 10.3).
-use Rattle.std.specs.Prelude.{◌≡◌, ◌⊎◌, ℕ, List, Option, Some, None, Result, Ok, Err}
+use Rattle.std.specs.Prelude.{◌≡◌, ◌⊎◌, ℕ, List, Option, Some, None}
 use Rattle.sip_text.specs.Text.{MessageText}
 use Rattle.sip_uri.specs.declared.hop.Hop.{Hop}
 use Rattle.authentication.specs.Answer.{Answer}

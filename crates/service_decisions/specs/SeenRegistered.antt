@@ -1,5 +1,5 @@
 -- What becomes of a REGISTER, in memory.
-use Rattle.std.specs.Prelude.{◌≡◌, ℕ, List, Option, Some, None, Result, Ok, Err, Vec}
+use Rattle.std.specs.Prelude.{◌≡◌, ℕ, List, Option, None, Result, Ok, Err, Vec}
 use Rattle.std.specs.Option.{option_map}
 use Rattle.authentication.specs.Answer.{Answer}
 use Rattle.bindings.specs.Bindings.{Binding}

@@ -7,6 +7,7 @@
 
 mod contacts;
 mod gateways;
+mod making;
 mod moment;
 mod place;
 mod registering;

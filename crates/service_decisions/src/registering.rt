@@ -3,12 +3,13 @@ ghost use Rattle.std.specs.Prelude.{◌≡◌, IfErr, IfOk, IfSome, List, Ok, Er
 ghost use Rattle.binding_table.specs.Changes.{bindings_of};
 ghost use Rattle.bindings.specs.Bindings.{Binding};
 ghost use Rattle.registrar.specs.Asking as spec;
-ghost use Rattle.registrar.specs.SeenAsking.{seen_registration};
-ghost use Rattle.service_decisions.specs.Registered.{IsMadeOf, IsRegistered, IsTaken, asked_of};
+ghost use Rattle.registrar.specs.SeenAsking.{seen_asking, seen_registration};
+ghost use Rattle.service_decisions.specs.Registered.{IsMadeOf, IsRegistered, IsRegisteredBy, IsTaken, asked_of, source_of};
 ghost use Rattle.service_decisions.specs.SeenRegistered.{IsApart, seen_registered};
 ghost use Rattle.service_decisions.specs.SeenServing.{serving_of};
 ghost use Rattle.service_decisions.specs.Serving.{Serving};
 
+use crate::making::{Apart, Makes, prepared};
 use crate::view::ServiceView;
 use authentication::OwnAnswer;
 use binding_table::{ChangeFault, PreparedChange};
@@ -49,9 +50,6 @@ fn asked_of(expirations: Expirations) -> AskedExpirations
 /// New bindings, and the answer that tells them or why there are none.
 type Outcome<A> = (Option<UserBindings<A>>, OwnAnswer<A>);
 
-/// The same apart from one another, as a table takes them: no new bindings where memory was refused.
-type Apart<A> = (Option<UserBindings<A>>, Result<OwnAnswer<A>, AllocError>);
-
 /// The new bindings apart from the answer.
 fn apart<A: Allocator>(outcome: Result<Outcome<A>, AllocError>) -> Apart<A>
     ensures ok { IfOk outcome (λ made. (result.0 ≡ made.0) × (result.1 ≡ Ok made.1)) }
@@ -60,6 +58,27 @@ fn apart<A: Allocator>(outcome: Result<Outcome<A>, AllocError>) -> Apart<A>
     match outcome {
         Ok((new, answer)) => (new, Ok(answer)),
         Err(AllocError) => (None, Err(AllocError)),
+    }
+}
+
+/// A request whose sender may make it, and the service that it comes to.
+#[derive(Drop)]
+struct Registering<'a, A: Allocator + Clone> {
+    view: &'a ServiceView<'a, A>,
+    alloc: &'a A,
+    registration: &'a Registration<'a, A>,
+}
+
+impl<A: Allocator + Clone> Makes<A> for Registering<'_, A> {
+    ghost use Rattle.registrar.specs.SeenAsking.{seen_registration};
+    ghost use Rattle.service_decisions.specs.SeenServing.{serving_of};
+
+    ghost serving = { λ r. serving_of r.view.now };
+
+    ghost registration = { λ r. seen_registration r.registration.now };
+
+    fn made(&self, held: &UserBindings<A>) -> Apart<A> {
+        apart(self.view.outcome(self.alloc, self.registration, held))
     }
 }
 
@@ -117,18 +136,44 @@ impl<'a, A: Allocator + Clone> ServiceView<'a, A> {
     ) -> Result<Registered<A>, AllocError>
         ensures { IfOk result (λ registered. IsTaken (serving_of self.now) (seen_registration registration.now) (seen_registered registered)) }
     {
-        let made = self.bindings.prepare(
-            rt,
-            registration.user(),
-            |held: &UserBindings<A>| -> Apart<A>
-                ensures { IsApart (serving_of self.entry.now) (seen_registration registration.entry.now) held.now result.0 result.1 }
-            { apart(self.outcome(alloc, registration, held)) },
-        );
+        let request = Registering {
+            view: self,
+            alloc,
+            registration,
+        };
+        let made = prepared(rt, self.bindings, registration.user(), &request);
         match made {
             Ok((change, answer)) => self.settled(rt, change, answer),
             Err(ChangeFault::Busy) => Ok(Registered::Waits),
             Err(ChangeFault::NoMemory) => Err(AllocError),
             Err(ChangeFault::Full) => Ok(Registered::Answered(full_answer(alloc.clone()?)?, None)),
+        }
+    }
+
+    /// What becomes of a request that asks for this.
+    fn registered_by<R: Wait>(
+        &self,
+        rt: &R,
+        alloc: &A,
+        asking: Asking<'_, A>,
+    ) -> Result<Registered<A>, AllocError>
+        ensures { IfOk result (λ registered. IsRegisteredBy (serving_of self.now) (seen_asking asking.entry) (seen_registered registered)) }
+    {
+        match asking {
+            Asking::Turned(answer, noted) => Ok(Registered::Answered(answer, noted)),
+            Asking::Registers(registration) => self.registered(rt, alloc, &registration),
+        }
+    }
+
+    /// Where a request came from, and when, as the registrar takes it.
+    fn source(&self, source: Hop) -> Source
+        ensures { result ≡ source_of (serving_of self.now) source }
+    {
+        Source {
+            hop: source,
+            inside: self.settings.is_inside(source.addr),
+            second: self.second,
+            millisecond: self.moment,
         }
     }
 
@@ -154,15 +199,9 @@ impl<'a, A: Allocator + Clone> ServiceView<'a, A> {
             realm: realm.as_ref(),
             expirations: asked_of(self.settings.expirations()),
         };
-        let from = Source {
-            hop: source,
-            inside: self.settings.is_inside(source.addr),
-            second: self.second,
-            millisecond: self.moment,
-        };
-        match asking_of(alloc.clone()?, &registrar, from, request)? {
-            Asking::Turned(answer, noted) => Ok(Registered::Answered(answer, noted)),
-            Asking::Registers(registration) => self.registered(rt, alloc, &registration),
-        }
+        let from = self.source(source);
+        let asking = asking_of(alloc.clone()?, &registrar, from, request)?;
+        let registered = self.registered_by(rt, alloc, asking)?;
+        Ok(registered)
     }
 }

@@ -1,17 +1,18 @@
 //! A service as a request finds it.
-ghost use Rattle.std.specs.Prelude.{◌≡◌, List, IfOk, IsTrue};
+ghost use Rattle.std.specs.Prelude.{◌≡◌, ◌&&◌, ◌||◌, List, IfOk, IsTrue, not};
 ghost use Rattle.std.specs.Option.{option_copied, option_map};
 ghost use Rattle.authentication.specs.declared.decision.Rule.TheVariants as rules;
 ghost use Rattle.authentication.specs.declared.domain.Domain.{Domain};
-ghost use Rattle.authentication.specs.SeenDecision.{seen_admission};
+ghost use Rattle.authentication.specs.SeenDecision.{seen_admission, seen_decision as of_sender};
 ghost use Rattle.authentication.specs.SeenRealm.{realm_if_any, seen_realm};
 ghost use Rattle.bindings.specs.Bindings.{Binding, there};
+ghost use Rattle.proxy_config.specs.Setup as proxy;
 ghost use Rattle.proxy_dispatch.specs.Admitting as dispatch;
 ghost use Rattle.proxy_dispatch.specs.SeenDecision.{seen_decision};
 ghost use Rattle.service_decisions.specs.SeenPlace.{seen_place};
-ghost use Rattle.service_decisions.specs.Targets.{OfUser, place_of};
+ghost use Rattle.service_decisions.specs.Targets.{OfUser, is_none_of, or_standing, place_of};
 ghost use Rattle.service_decisions.specs.SeenServing.{serving_of};
-ghost use Rattle.service_decisions.specs.Served.{IsDomainOf, IsOpenedBy, IsPlain, IsServed, admission_of, arrival_of, goes_unasked, has_place_at, may_be_abroad, may_go, opened_by, user_at};
+ghost use Rattle.service_decisions.specs.Served.{IsDomainOf, IsOpenedBy, IsPlain, IsServed, IsServedBy, admission_of, arrival_of, by_gateways, goes_unasked, has_place_at, may_be_abroad, may_go, opened_at, opened_by, user_at};
 ghost use Rattle.service_decisions.specs.Serving.{realm_at};
 
 use crate::contacts::contacts_of;
@@ -86,6 +87,30 @@ fn may_go<A: Allocator>(rule: Rule, request: &Message<A>) -> bool
     request.method().unwrap_or(b"") != b"ACK".as_slice() || goes_unasked(rule)
 }
 
+/// Whether a user has a location, or one of these bindings.
+fn is_reached<A: Allocator + Clone>(setup: &Setup<A>, user: &[u8], held: &UserBindings<A>) -> bool
+    ensures { result ≡ (not (is_none_of (proxy.locations_of user.now setup.now.locations)) || not (is_none_of held.now)) }
+{
+    has_location(setup, user) || !held.is_empty()
+}
+
+/// Whether it counts whether the user of a request has a place: its sender is not trusted, and strangers are served.
+fn counts(trusted: bool, serves_strangers: bool) -> bool
+    ensures { result ≡ (not trusted && serves_strangers) }
+{
+    !trusted && serves_strangers
+}
+
+/// A request is opened by the setup of the moment, or by the one that stands.
+fn opens<A: Allocator>(moment: Option<Setup<A>>) -> Decision<A>
+    ensures { (setup : proxy.Setup) → seen_decision setup result ≡ dispatch.Opens (or_standing setup moment) }
+{
+    match moment {
+        None => Decision::Opens,
+        Some(moment) => Decision::OpensBy(moment),
+    }
+}
+
 impl<'a, A: Allocator + Clone> ServiceView<'a, A> {
     /// The realm that credentials are asked for, where there is one and there are users.
     pub(crate) fn realm(&self) -> Option<RealmSecrets<'a, A>>
@@ -147,7 +172,23 @@ impl<'a, A: Allocator + Clone> ServiceView<'a, A> {
         ensures { IfOk result (λ is. (held : List Binding) × (is ≡ has_place_at setup.now (OfUser user.now) self.now.moment held)) }
     {
         let held = self.held(rt, user)?;
-        Ok(has_location(setup, user) || !held.is_empty())
+        Ok(is_reached(setup, user, &held))
+    }
+
+    /// Whether the user whose bindings count at a place has a location, or a binding that is there.
+    fn has_place_at<R: Wait>(
+        &self,
+        rt: &R,
+        setup: &Setup<A>,
+        place: &Place<A>,
+    ) -> Result<bool, AllocError>
+        ensures { IfOk result (λ is. (held : List Binding) × (is ≡ has_place_at setup.now (seen_place place.now) self.now.moment held)) }
+    {
+        match place {
+            Place::OfUser(user) => self.has_user(rt, setup, user),
+            Place::Beyond(_) => Ok(false),
+            Place::Nowhere => Ok(false),
+        }
     }
 
     /// Whether the user that a request is for has a location, or a binding that is there.
@@ -160,10 +201,26 @@ impl<'a, A: Allocator + Clone> ServiceView<'a, A> {
     ) -> Result<bool, AllocError>
         ensures { IfOk result (λ is. (held : List Binding) × (is ≡ has_place_at setup.now (place_of setup.now rules.Stranger request.now) self.now.moment held)) }
     {
-        match place_of(alloc.clone()?, setup, Rule::Stranger, request)? {
-            Place::OfUser(user) => self.has_user(rt, setup, &user),
-            Place::Beyond(_) => Ok(false),
-            Place::Nowhere => Ok(false),
+        let place = place_of(alloc.clone()?, setup, Rule::Stranger, request)?;
+        let has_place = self.has_place_at(rt, setup, &place)?;
+        Ok(has_place)
+    }
+
+    /// The same where it counts.
+    fn has_place_if<R: Wait>(
+        &self,
+        rt: &R,
+        alloc: &A,
+        setup: &Setup<A>,
+        request: &Message<A>,
+        counts: bool,
+    ) -> Result<bool, AllocError>
+        ensures { IfOk result (λ is. (held : List Binding) × (is ≡ (counts && has_place_at setup.now (place_of setup.now rules.Stranger request.now) self.now.moment held))) }
+    {
+        if counts {
+            self.has_place(rt, alloc, setup, request)
+        } else {
+            Ok(false)
         }
     }
 
@@ -179,9 +236,8 @@ impl<'a, A: Allocator + Clone> ServiceView<'a, A> {
         ensures { IfOk result (λ arrival. (held : List Binding) × (arrival ≡ arrival_of (serving_of self.now) setup.now request.now source held)) }
     {
         let trusted = self.settings.is_trusted(source.addr);
-        let has_place = !trusted
-            && self.settings.serves_strangers()
-            && self.has_place(rt, alloc, setup, request)?;
+        let counts = counts(trusted, self.settings.serves_strangers());
+        let has_place = self.has_place_if(rt, alloc, setup, request, counts)?;
         Ok(Arrival {
             source,
             second: self.second,
@@ -198,7 +254,7 @@ impl<'a, A: Allocator + Clone> ServiceView<'a, A> {
         match (place, self.users) {
             (Place::OfUser(_), None) => true,
             (Place::OfUser(user), Some(users)) => users.secrets(user).is_none(),
-            _ => false,
+            (Place::Beyond(_) | Place::Nowhere, _) => false,
         }
     }
 
@@ -213,6 +269,43 @@ impl<'a, A: Allocator + Clone> ServiceView<'a, A> {
                 second: self.second,
             }),
         }
+    }
+
+    /// Whether the gateways may be used for a request that is opened by this rule, came from there, and is for a place.
+    fn by_gateways(&self, rule: Rule, source: Hop, place: &Place<A>) -> bool
+        ensures { result ≡ by_gateways (serving_of self.now) rule source (seen_place place.now) }
+    {
+        may_use_gateways(self.settings, rule, source) && self.may_be_abroad(place)
+    }
+
+    /// The setup by which a request is opened that is for this place; none where the one that stands leads there.
+    fn opened_at<R: Wait>(
+        &self,
+        rt: &R,
+        alloc: &A,
+        setup: &Setup<A>,
+        rule: Rule,
+        request: &Message<A>,
+        source: Hop,
+        place: &Place<A>,
+    ) -> Result<Option<Setup<A>>, AllocError>
+        ensures { IfOk result (λ moment. (held : List Binding)
+            × (or_standing setup.now moment ≡ opened_at (serving_of self.now) setup.now rule request.now source (seen_place place.now) held)) }
+    {
+        let held = self.held(rt, user_at(place).unwrap_or(b""))?;
+        let contacts = contacts_of(alloc.clone()?, &held, self.moment)?;
+        let by_gateways = self.by_gateways(rule, source, place);
+        let moment = setup_for(
+            alloc.clone()?,
+            setup,
+            self.settings.gateways(),
+            by_gateways,
+            place,
+            &contacts,
+            self.token(),
+            request,
+        )?;
+        Ok(moment)
     }
 
     /// What becomes of a request that is opened by this rule.
@@ -231,24 +324,8 @@ impl<'a, A: Allocator + Clone> ServiceView<'a, A> {
             return Ok(Decision::Opens);
         }
         let place = place_of(alloc.clone()?, setup, rule, request)?;
-        let held = self.held(rt, user_at(&place).unwrap_or(b""))?;
-        let contacts = contacts_of(alloc.clone()?, &held, self.moment)?;
-        let by_gateways = may_use_gateways(self.settings, rule, source)
-            && self.may_be_abroad(&place);
-        let moment = setup_for(
-            alloc.clone()?,
-            setup,
-            self.settings.gateways(),
-            by_gateways,
-            &place,
-            &contacts,
-            self.token(),
-            request,
-        )?;
-        match moment {
-            None => Ok(Decision::Opens),
-            Some(moment) => Ok(Decision::OpensBy(moment)),
-        }
+        let moment = self.opened_at(rt, alloc, setup, rule, request, source, &place)?;
+        Ok(opens(moment))
     }
 
     /// What becomes of a request that is opened by this rule, or goes no further by it.
@@ -267,6 +344,37 @@ impl<'a, A: Allocator + Clone> ServiceView<'a, A> {
             return Ok(Decision::Leaves);
         }
         self.opened(rt, alloc, setup, rule, request, source)
+    }
+
+    /// What is decided of a request of whose sender this is decided.
+    fn decided_by<R: Wait>(
+        &self,
+        rt: &R,
+        alloc: &A,
+        setup: &Setup<A>,
+        request: &Message<A>,
+        source: Hop,
+        by: SenderDecision<A>,
+    ) -> Result<Decided<A>, AllocError>
+        ensures { IfOk result (λ decided. IsServedBy (serving_of self.now) setup.now request.now source (of_sender by) (seen_decision setup.now decided.decision) (option_map (λ n. n.items) decided.noted)) }
+    {
+        match by {
+            SenderDecision::Registers => Ok(Decided {
+                decision: Decision::Leaves,
+                noted: None,
+            }),
+            SenderDecision::Opens(rule) => {
+                let decision = self.opened_if(rt, alloc, setup, rule, request, source)?;
+                Ok(Decided {
+                    decision,
+                    noted: None,
+                })
+            }
+            SenderDecision::Turned(answer, noted) => Ok(Decided {
+                decision: Decision::Answers(answer),
+                noted,
+            }),
+        }
     }
 
     /// What is decided of a request that may open a call, and came from there (RFC 3261 sections 16.3 and 22.3). A REGISTER for the domain
@@ -288,19 +396,8 @@ impl<'a, A: Allocator + Clone> ServiceView<'a, A> {
         let realm = self.realm();
         let admission = self.admission(setup, realm.as_ref());
         let arrival = self.arrival(rt, alloc, setup, request, source)?;
-        match decision_of(alloc.clone()?, &admission, arrival, request)? {
-            SenderDecision::Registers => Ok(Decided {
-                decision: Decision::Leaves,
-                noted: None,
-            }),
-            SenderDecision::Opens(rule) => Ok(Decided {
-                decision: self.opened_if(rt, alloc, setup, rule, request, source)?,
-                noted: None,
-            }),
-            SenderDecision::Turned(answer, noted) => Ok(Decided {
-                decision: Decision::Answers(answer),
-                noted,
-            }),
-        }
+        let by = decision_of(alloc.clone()?, &admission, arrival, request)?;
+        let decided = self.decided_by(rt, alloc, setup, request, source, by)?;
+        Ok(decided)
     }
 }
