@@ -94,30 +94,51 @@ impl<A: Allocator + Copy> ServedAt<'_, A> {
         }
     }
 
-    /// Keeps what an operator may be told of a request that was refused: with this answer, or with none.
+    /// Keeps what an operator may be told of a request that was refused: with this status, or without an answer, and why.
     fn keep<R: Wait>(
         &self,
         rt: &R,
         request: &Message<A>,
         arrived: Arrived,
-        answer: Option<&OwnAnswer<A>>,
-        noted: &Option<Vec<u8, A>>,
+        status: Option<u16>,
+        why: &[u8],
     ) {
-        let (status, reason) = match answer {
-            Some(answer) => (Some(answer.status().code()), answer.status().reason()),
-            None => (None, UNANSWERED),
-        };
-        let Ok(why) = why_refused(self.heap, reason, noted) else {
-            return;
-        };
         let refused = Refused {
             source: arrived.source,
             method: request.method().unwrap_or(b""),
             uri: request_uri(request),
             status,
-            why: &why,
+            why,
         };
         self.users.last_refused.keep(rt, &refused, arrived.at);
+    }
+
+    /// Keeps what an operator may be told of a request that was refused with this answer.
+    fn keep_answered<R: Wait>(
+        &self,
+        rt: &R,
+        request: &Message<A>,
+        arrived: Arrived,
+        answer: &OwnAnswer<A>,
+        noted: &Option<Vec<u8, A>>,
+    ) {
+        let status = answer.status();
+        if let Ok(why) = why_refused(self.heap, status.reason(), noted) {
+            self.keep(rt, request, arrived, Some(status.code()), &why);
+        }
+    }
+
+    /// Keeps what an operator may be told of an ACK that goes nowhere.
+    fn keep_unanswered<R: Wait>(
+        &self,
+        rt: &R,
+        request: &Message<A>,
+        arrived: Arrived,
+        noted: &Option<Vec<u8, A>>,
+    ) {
+        if let Ok(why) = why_refused(self.heap, UNANSWERED, noted) {
+            self.keep(rt, request, arrived, None, &why);
+        }
     }
 
     /// Keeps what an operator may be told of a request of which this is decided, if it is refused.
@@ -131,10 +152,10 @@ impl<A: Allocator + Copy> ServedAt<'_, A> {
     ) {
         match decision {
             Decision::Answers(_) | Decision::Leaves if is_ack(request) => {
-                self.keep(rt, request, arrived, None, noted);
+                self.keep_unanswered(rt, request, arrived, noted);
             }
             Decision::Answers(answer) if is_refusal(answer, noted) => {
-                self.keep(rt, request, arrived, Some(answer), noted);
+                self.keep_answered(rt, request, arrived, answer, noted);
             }
             _ => {}
         }
@@ -153,7 +174,7 @@ impl<A: Allocator + Copy> ServedAt<'_, A> {
             Registered::Answered(answer, noted) => {
                 self.note(rt, &noted, arrived.source);
                 if is_refusal(&answer, &noted) {
-                    self.keep(rt, request, arrived, Some(&answer), &noted);
+                    self.keep_answered(rt, request, arrived, &answer, &noted);
                 }
                 Some(answer)
             }
