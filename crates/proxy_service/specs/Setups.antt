@@ -23,9 +23,12 @@ by_port_if own_port settings = if own_port then record settings { setup = record
 abbrev pub recording_if : (records : Bool) → Settings → Settings
 recording_if records settings = if records then record settings { setup = record settings.setup { records = true } } else settings
 
+abbrev pub by_terms : RunSettings → Settings → Settings
+by_terms terms settings = recording_if terms.records (by_port_if terms.own_port (of_service settings))
+
 -- and, where there is a realm, as of_own_realm says
 abbrev pub service_settings : RunSettings → Settings → Settings
-service_settings terms settings = of_own_realm (recording_if terms.records (by_port_if terms.own_port (of_service settings)))
+service_settings terms settings = of_own_realm (by_terms terms settings)
 
 -- a setup has the identity of the service
 pub record IsOf (identity : Identity) (setup : Setup) : Type 0 where

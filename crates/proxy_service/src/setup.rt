@@ -1,7 +1,7 @@
 //! The configuration of a service.
 ghost use Rattle.std.specs.Prelude.{◌≡◌, ◌↔◌, IfErr, IfOk, IsTrue};
 ghost use Rattle.std.specs.Option.{option_copied};
-ghost use Rattle.proxy_service.specs.Setups.{IsOf, IsReloadFault, IsServiceConfigured, by_port_if, recording_if, service_settings};
+ghost use Rattle.proxy_service.specs.Setups.{IsOf, IsReloadFault, IsServiceConfigured, by_port_if, by_terms, recording_if, service_settings};
 
 use crate::terms::RunSettings;
 use fork_call::Setup;
@@ -31,22 +31,18 @@ fn recording_if<A: Allocator>(settings: ServiceSettings<A>, records: bool) -> Se
     }
 }
 
-/// Settings as a service goes by them: all Route values at the front of a request that lead to the proxy are taken away; a 100 has the
-/// Timestamp of its request, and a CANCEL says why; the own address counts as the domain with the own port alone, and a request that
-/// opens a dialog has a Record-Route line, where the terms say so. Where there is a realm there is that line, too, and credentials for it
-/// do not go on.
-fn service_settings<A: Allocator>(
-    alloc: A,
-    settings: ServiceSettings<A>,
-    terms: &RunSettings,
-) -> Result<ServiceSettings<A>, AllocError>
-    ensures { IfOk result (λ made. made ≡ service_settings terms.now settings) }
+/// Settings as a service goes by them, but for the realm: all Route values at the front of a request that lead to the proxy are taken away;
+/// a 100 has the Timestamp of its request, and a CANCEL says why; the own address counts as the domain with the own port alone, and a
+/// request that opens a dialog has a Record-Route line, where the terms say so.
+fn by_terms<A: Allocator>(settings: ServiceSettings<A>, terms: &RunSettings) -> ServiceSettings<A>
+    ensures { result ≡ by_terms terms.now settings }
 {
     let settings = settings.for_a_service().stamping().giving_reasons();
-    recording_if(by_port_if(settings, terms.own_port), terms.records).of_own_realm(alloc)
+    recording_if(by_port_if(settings, terms.own_port), terms.records)
 }
 
-/// A configuration as a service goes by it.
+/// A configuration as a service goes by it. Where there is a realm, a request that opens a dialog has a Record-Route line, too, and
+/// credentials for the realm do not go on.
 ///
 /// # Errors
 ///
@@ -60,7 +56,7 @@ pub(crate) fn service_configuration<A: Allocator>(
     ensures users { IfOk result (λ made. made.users ≡ configuration.users) }
 {
     let Configuration { settings, users } = configuration;
-    let settings = service_settings(alloc, settings, terms)?;
+    let settings = by_terms(settings, terms).of_own_realm(alloc)?;
     Ok(Configuration { settings, users })
 }
 
