@@ -35,7 +35,8 @@ fn address_of(alloc: Global, addr: [u8; 4]) -> Result<String, AllocError> {
 /// The nonce that an address is given at this moment, in milliseconds since the service began.
 fn nonce_for(alloc: Global, addr: [u8; 4], now: u64) -> Result<Vec<u8>, AllocError> {
     let address = address_of(alloc, addr)?;
-    let second = BEGAN.saturating_add((now / 1_000) as u32);
+    let passed = u32::try_from(now / 1_000).unwrap_or(u32::MAX);
+    let second = BEGAN.saturating_add(passed);
     let mut nonce = Vec::new(alloc);
     append_nonce(&mut nonce, &SECRET, address.as_bytes(), second)?;
     Ok(nonce)
