@@ -77,7 +77,7 @@ const INVITE: Asked = Asked {
 };
 
 /// A telephone behind a translated address registers, rings until its binding ends, and is not there behind that.
-const REGISTERED: [(Asked, Goes); 9] = [
+const REGISTERED: &[(Asked, Goes)] = &[
     (
         REGISTER,
         Goes {
@@ -189,6 +189,11 @@ const REGISTERED: [(Asked, Goes); 9] = [
     ),
 ];
 
+/// Each table stands in a function of its own: a proof reads a constant wherever it is named, once for each call beside it.
+fn registered() -> &'static [(Asked, Goes)] {
+    REGISTERED
+}
+
 /// An INVITE of somebody whose address is not trusted.
 const OUTSIDE: Asked = Asked {
     source: AWAY,
@@ -200,7 +205,7 @@ const OUTSIDE: Asked = Asked {
 };
 
 /// Who may call: those with a password, from wherever they are, those that are trusted, and nobody else.
-const CALLING: [(Asked, Goes); 7] = [
+const CALLING: &[(Asked, Goes)] = &[
     (
         OUTSIDE,
         Goes {
@@ -291,8 +296,12 @@ const CALLING: [(Asked, Goes); 7] = [
     ),
 ];
 
+fn calling() -> &'static [(Asked, Goes)] {
+    CALLING
+}
+
 /// Where strangers are served, they reach users who have registered, and no others.
-const STRANGERS: [(Asked, Goes); 3] = [
+const STRANGERS: &[(Asked, Goes)] = &[
     (
         Asked {
             source: INSIDE,
@@ -336,6 +345,10 @@ const STRANGERS: [(Asked, Goes); 3] = [
     ),
 ];
 
+fn strangers() -> &'static [(Asked, Goes)] {
+    STRANGERS
+}
+
 /// Whether a service by this configuration follows each of the turns.
 fn follows<R: Wait + Clock>(rt: &R, alloc: Global, text: &[u8], turns: &[(Asked, Goes)]) -> bool {
     match service_of(alloc, text, Some(USERS), 100) {
@@ -346,26 +359,26 @@ fn follows<R: Wait + Clock>(rt: &R, alloc: Global, text: &[u8], turns: &[(Asked,
 
 #[test]
 fn telephones_register_and_are_called(rt: HostRuntime) {
-    let well = follows(&rt, rt.alloc(), REALM, &REGISTERED);
+    let well = follows(&rt, rt.alloc(), REALM, registered());
     holds(&rt, well, "a telephone");
 }
 
 #[test]
 fn who_may_call_is_called_for(rt: HostRuntime) {
-    let well = follows(&rt, rt.alloc(), REALM, &CALLING);
+    let well = follows(&rt, rt.alloc(), REALM, calling());
     holds(&rt, well, "each who calls");
 }
 
 #[test]
 fn strangers_reach_who_has_registered(rt: HostRuntime) {
-    let well = follows(&rt, rt.alloc(), OPEN, &STRANGERS);
+    let well = follows(&rt, rt.alloc(), OPEN, strangers());
     holds(&rt, well, "strangers");
 }
 
 /// What waits to be written once alice's password has come for bob.
 fn warned<R: Wait + Clock>(rt: &R, alloc: Global) -> Option<Vec<u8>> {
     let service = service_of(alloc, REALM, Some(USERS), 100)?;
-    let _ = missed(rt, alloc, &service, &REGISTERED);
+    let _ = missed(rt, alloc, &service, registered());
     Some(service.users().warnings.take(rt).text)
 }
 
@@ -406,7 +419,7 @@ const NO_ROOM: Goes = Goes {
 };
 
 /// Bob has the one binding that there is room for, for a minute.
-const FULL: [(Asked, Goes); 2] = [
+const FULL: &[(Asked, Goes)] = &[
     (
         Asked {
             source: INSIDE,
@@ -418,8 +431,12 @@ const FULL: [(Asked, Goes); 2] = [
     (ALICES, NO_ROOM),
 ];
 
+fn full() -> &'static [(Asked, Goes)] {
+    FULL
+}
+
 /// Alice asks again while it is there, and when it has ended.
-const AGAIN: [(Asked, Goes); 1] = [(
+const AGAIN: &[(Asked, Goes)] = &[(
     Asked {
         at: 59_999,
         cseq: 2,
@@ -428,7 +445,11 @@ const AGAIN: [(Asked, Goes); 1] = [(
     NO_ROOM,
 )];
 
-const AFTERWARDS: [(Asked, Goes); 1] = [(
+fn again() -> &'static [(Asked, Goes)] {
+    AGAIN
+}
+
+const AFTERWARDS: &[(Asked, Goes)] = &[(
     Asked {
         at: 60_000,
         cseq: 3,
@@ -437,17 +458,21 @@ const AFTERWARDS: [(Asked, Goes); 1] = [(
     MADE,
 )];
 
+fn afterwards() -> &'static [(Asked, Goes)] {
+    AFTERWARDS
+}
+
 /// Whether a binding leaves its room once the time is looked at behind its end, and no sooner.
 fn leaves_room<R: Wait + Clock>(rt: &R, alloc: Global) -> Option<bool> {
     let service = service_of(alloc, REALM, Some(USERS), 1)?;
     let mut port = Outgoing::new(alloc);
     let is_idle = service.next_look(rt, 0) == u64::MAX;
-    let is_full = missed(rt, alloc, &service, &FULL).is_none();
+    let is_full = missed(rt, alloc, &service, full()).is_none();
     service.tick(rt, &mut port, 49_999);
-    let is_kept = missed(rt, alloc, &service, &AGAIN).is_none();
+    let is_kept = missed(rt, alloc, &service, again()).is_none();
     let looks = service.next_look(rt, 49_999) == 59_999;
     service.tick(rt, &mut port, 60_000);
-    let has_room = missed(rt, alloc, &service, &AFTERWARDS).is_none();
+    let has_room = missed(rt, alloc, &service, afterwards()).is_none();
     Some(is_idle && is_full && is_kept && looks && has_room)
 }
 

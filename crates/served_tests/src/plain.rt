@@ -2,6 +2,7 @@
 //! (RFC 3261 sections 10, 11 and 16).
 use crate::holds::holds;
 use crate::turns::{Asked, Goes, missed, service_of};
+use proxy_service::Service;
 use sip_uri::{Hop, Transport};
 use std::alloc::Global;
 use std::sync::Wait;
@@ -57,7 +58,7 @@ const REFUSED: Goes = Goes {
 };
 
 /// Who is trusted calls without a password, and strangers are refused, but for what is asked of the proxy itself.
-const CALLS: [(Asked, Goes); 5] = [
+const CALLS: &[(Asked, Goes)] = &[
     (
         INVITE,
         Goes {
@@ -137,7 +138,7 @@ const GOES_ON: Goes = Goes {
 };
 
 /// A REGISTER of bob is taken from this machine, and from nobody else.
-const REGISTERS: [(Asked, Goes); 2] = [
+const REGISTERS: &[(Asked, Goes)] = &[
     (
         Asked {
             at: 60,
@@ -167,28 +168,48 @@ const REGISTERS: [(Asked, Goes); 2] = [
     ),
 ];
 
-/// What does not hold of such a service.
-fn fault_of<R: Wait + Clock>(rt: &R, alloc: Global) -> &'static str {
-    let Some(service) = service_of(alloc, PLAIN, None, 100) else {
-        return "it serves without users";
-    };
-    let strangers = Asked {
-        source: STRANGER,
-        ..ACK
-    };
-    if missed(rt, alloc, &service, &CALLS).is_some() {
+/// Each table stands in a function of its own: a proof reads a constant wherever it is named, once for each call beside it.
+fn calls() -> &'static [(Asked, Goes)] {
+    CALLS
+}
+
+fn registers() -> &'static [(Asked, Goes)] {
+    REGISTERS
+}
+
+/// The ACK from there, and where one goes that goes on.
+fn ack_from(source: Hop) -> (Asked, Goes) {
+    (Asked { source, ..ACK }, GOES_ON)
+}
+
+/// Whether an ACK from there goes on.
+fn goes_on<R: Wait + Clock>(rt: &R, alloc: Global, service: &Service, source: Hop) -> bool {
+    missed(rt, alloc, service, &[ack_from(source)]).is_none()
+}
+
+/// What does not hold of this service.
+fn fault_by<R: Wait + Clock>(rt: &R, alloc: Global, service: &Service) -> &'static str {
+    if missed(rt, alloc, service, calls()).is_some() {
         return "who is trusted calls";
     }
-    if missed(rt, alloc, &service, &[(ACK, GOES_ON)]).is_some() {
+    if !goes_on(rt, alloc, service, HERE) {
         return "an ACK from this machine goes on";
     }
-    if missed(rt, alloc, &service, &[(strangers, GOES_ON)]).is_none() {
+    if goes_on(rt, alloc, service, STRANGER) {
         return "an ACK of a stranger goes nowhere";
     }
-    if missed(rt, alloc, &service, &REGISTERS).is_some() {
+    if missed(rt, alloc, service, registers()).is_some() {
         return "who is inside registers";
     }
     "nothing"
+}
+
+/// What does not hold of such a service.
+fn fault_of<R: Wait + Clock>(rt: &R, alloc: Global) -> &'static str {
+    match service_of(alloc, PLAIN, None, 100) {
+        Some(service) => fault_by(rt, alloc, &service),
+        None => "it serves without users",
+    }
 }
 
 #[test]

@@ -42,7 +42,7 @@ const ANSWER: Goes = Goes {
 };
 
 /// It is challenged, refused with alice's password, and taken with bob's; a stranger's call is refused, and an ACK goes nowhere.
-const TURNS: [(Asked, Goes); 4] = [
+const TURNS: &[(Asked, Goes)] = &[
     (
         REGISTER,
         Goes {
@@ -92,7 +92,7 @@ const TURNS: [(Asked, Goes); 4] = [
     ),
 ];
 
-const ACK: [(Asked, Goes); 1] = [(
+const ACK: &[(Asked, Goes)] = &[(
     Asked {
         at: 40,
         method: "ACK",
@@ -118,71 +118,116 @@ const ONE: &str =
 const REFUSED: &str =
     "990 198.51.100.7:41000 REGISTER sip:example.com 403 wrong credentials for alice\n970 198.51.100.7:41000 INVITE sip:x@203.0.113.1 403 Forbidden\n960 198.51.100.7:41000 ACK sip:x@203.0.113.1 - neither trusted nor of a dialog\nno more\n";
 
-/// Whether what is appended is this.
-fn is_told(appended: Result<(), AllocError>, text: &mut Vec<u8>, expected: &str) -> bool {
-    let is_so = appended.is_ok() && text.as_slice() == expected.as_bytes();
-    text.clear();
-    is_so
+const UNBOUND: &str = "unknown user alice\n";
+
+const UNKNOWN: &str = "unknown user bob\n";
+
+/// Each table stands in a function of its own: a proof reads a constant wherever it is named, once for each call beside it.
+fn turns() -> &'static [(Asked, Goes)] {
+    TURNS
 }
 
-/// What was told otherwise than it should be.
-fn told<R: Wait>(rt: &R, alloc: Global, service: &Service) -> &'static str {
+fn ack() -> &'static [(Asked, Goes)] {
+    ACK
+}
+
+/// What is told of all bindings at this moment.
+fn all_bindings<R: Wait>(rt: &R, alloc: Global, service: &Service, now: u64) -> Option<Vec<u8>> {
     let mut text = Vec::new(alloc);
-    let out = &mut text;
+    match service.users().registry.append_bindings(rt, now, &mut text) {
+        Ok(()) => Some(text),
+        Err(AllocError) => None,
+    }
+}
+
+/// What is told of those of a user at this moment.
+fn bindings_of<R: Wait>(
+    rt: &R,
+    alloc: Global,
+    service: &Service,
+    user: &[u8],
+    now: u64,
+) -> Option<Vec<u8>> {
+    let mut text = Vec::new(alloc);
     let registry = &service.users().registry;
-    if !is_told(registry.append_bindings(rt, 1_000, out), out, BOTH) {
+    match registry.append_bindings_of(rt, user, now, &mut text) {
+        Ok(()) => Some(text),
+        Err(AllocError) => None,
+    }
+}
+
+/// What is told of what was refused.
+fn all_refused<R: Wait>(rt: &R, alloc: Global, service: &Service, now: u64) -> Option<Vec<u8>> {
+    let mut text = Vec::new(alloc);
+    match service.users().last_refused.append(rt, now, &mut text) {
+        Ok(()) => Some(text),
+        Err(AllocError) => None,
+    }
+}
+
+/// What is told once a user is forgotten.
+fn forgotten<R: Wait>(rt: &R, alloc: Global, service: &Service, user: &[u8]) -> Option<Vec<u8>> {
+    let mut text = Vec::new(alloc);
+    match service.users().registry.forget_user(rt, user, &mut text) {
+        Ok(()) => Some(text),
+        Err(AllocError) => None,
+    }
+}
+
+/// Whether this is told.
+fn is(text: Option<Vec<u8>>, expected: &str) -> bool {
+    match text {
+        Some(text) => text.as_slice() == expected.as_bytes(),
+        None => false,
+    }
+}
+
+/// What is told otherwise than it should be.
+fn fault_of<R: Wait>(rt: &R, alloc: Global, service: &Service) -> &'static str {
+    if !is(all_bindings(rt, alloc, service, 1_000), BOTH) {
         return "all bindings";
     }
-    if !is_told(
-        registry.append_bindings_of(rt, b"bob", 60_020, out),
-        out,
-        ONE,
-    ) {
+    if !is(bindings_of(rt, alloc, service, b"bob", 60_020), ONE) {
         return "those of a user that are there";
     }
-    if !is_told(
-        registry.append_bindings_of(rt, b"alice", 1_000, out),
-        out,
-        "unknown user alice\n",
-    ) {
+    if !is(bindings_of(rt, alloc, service, b"alice", 1_000), UNBOUND) {
         return "a user without a binding";
     }
-    let last_refused = &service.users().last_refused;
-    if !is_told(last_refused.append(rt, 1_000, out), out, REFUSED) {
+    if !is(all_refused(rt, alloc, service, 1_000), REFUSED) {
         return "what was refused";
     }
-    if !is_told(registry.forget_user(rt, b"bob", out), out, "forgotten 2\n") {
+    if !is(forgotten(rt, alloc, service, b"bob"), "forgotten 2\n") {
         return "a user is forgotten";
     }
-    if !is_told(
-        registry.forget_user(rt, b"bob", out),
-        out,
-        "unknown user bob\n",
-    ) {
+    if !is(forgotten(rt, alloc, service, b"bob"), UNKNOWN) {
         return "a user who was forgotten";
     }
-    if !is_told(registry.append_bindings(rt, 1_000, out), out, "no more\n") {
+    if !is(all_bindings(rt, alloc, service, 1_000), "no more\n") {
         return "nothing is bound";
     }
     "none"
 }
 
 /// The same behind the turns.
-fn told_behind<R: Wait + Clock>(rt: &R, alloc: Global) -> &'static str {
-    let Some(service) = service_of(alloc, REALM, Some(USERS), 100) else {
-        return "a service";
-    };
-    if missed(rt, alloc, &service, &TURNS).is_some() {
+fn fault_by<R: Wait + Clock>(rt: &R, alloc: Global, service: &Service) -> &'static str {
+    if missed(rt, alloc, service, turns()).is_some() {
         return "the turns";
     }
-    if missed(rt, alloc, &service, &ACK).is_none() {
+    if missed(rt, alloc, service, ack()).is_none() {
         return "an ACK is answered";
     }
-    told(rt, alloc, &service)
+    fault_of(rt, alloc, service)
+}
+
+fn fault_behind<R: Wait + Clock>(rt: &R, alloc: Global) -> &'static str {
+    match service_of(alloc, REALM, Some(USERS), 100) {
+        Some(service) => fault_by(rt, alloc, &service),
+        None => "a service",
+    }
 }
 
 #[test]
 fn an_operator_is_told_of_bindings_and_refusals(rt: HostRuntime) {
-    let told = told_behind(&rt, rt.alloc());
-    holds(&rt, told == "none", told);
+    let fault = fault_behind(&rt, rt.alloc());
+    holds(&rt, fault == "none", fault);
 }
