@@ -3,12 +3,12 @@ use crate::holds::holds;
 use crate::texts::{bindings_of, request_from, settings_from};
 use binding_table::BindingTable;
 use bindings::UserBindings;
-use fork_call::Setup;
 use proxy_dispatch::Decision;
+use service_config::ServiceSettings;
 use service_decisions::{Decided, ServiceView};
 use sip_digest::{Algorithms, UserList};
 use sip_uri::{Hop, Transport};
-use std::alloc::Global;
+use std::alloc::{AllocError, Global};
 use std::sync::Wait;
 
 /// A service with a realm, which serves strangers or does not.
@@ -21,6 +21,8 @@ const OPEN: &[u8] =
 /// Its users: bob and carol.
 const USERS: &[u8] =
     b"bob e4d909c290d0fb1ca068ffaddf22cbd0 -\ncarol e4d909c290d0fb1ca068ffaddf22cbd0 -\n";
+
+const SECRET: &[u8; 32] = &[7; 32];
 
 /// Who may send as he likes, a gateway, and a stranger.
 const INSIDE: Hop = Hop {
@@ -65,39 +67,60 @@ fn verdict_of(decided: &Decided<Global>) -> Verdict {
 /// A table in which carol has two bindings.
 fn table_of<R: Wait>(rt: &R, alloc: Global) -> Option<BindingTable<UserBindings<Global>, Global>> {
     let bindings = bindings_of(alloc, &[(OUTSIDE, 2_000), (INSIDE, 2_000)])?;
-    let Ok(table) = BindingTable::new(alloc, 10) else {
-        return None;
-    };
+    let table = BindingTable::new(alloc, 10).ok()?;
     match table.insert(rt, b"carol", bindings) {
         Ok(()) => Some(table),
-        Err(_) => None,
+        Err(AllocError) => None,
     }
 }
 
-/// From where a request comes, its start line, its From and its To, and what is decided.
+/// By which settings a service goes, from where a request comes, its start line, its From and its To, and what is decided.
 type Row<'a> = (&'a [u8], Hop, &'a [u8], &'a [u8], &'a [u8], Verdict);
 
-/// What is decided of the request of a row at 1,000 ms.
-fn decides<R: Wait>(rt: &R, alloc: Global, row: &Row<'_>) -> Option<Verdict> {
-    let settings = settings_from(alloc, row.0)?;
-    let table = table_of(rt, alloc)?;
+/// What is decided of the request of a row at 1,000 ms, by these settings, users and bindings.
+fn decides_by<R: Wait>(
+    rt: &R,
+    alloc: Global,
+    settings: &ServiceSettings<Global>,
+    users: &UserList<Global>,
+    table: &BindingTable<UserBindings<Global>, Global>,
+    row: &Row<'_>,
+) -> Option<Verdict> {
     let request = request_from(alloc, row.2, row.3, row.4)?;
-    let Ok(users) = UserList::read(alloc, USERS, Algorithms::Md5) else {
-        return None;
-    };
     let view = ServiceView {
-        settings: &settings,
-        users: Some(&users),
-        secret: &[7; 32],
-        bindings: &table,
+        settings,
+        users: Some(users),
+        secret: SECRET,
+        bindings: table,
         has_bindings: true,
         second: 1_764_400_000,
         moment: 1_000,
     };
-    let setup: &Setup<Global> = settings.setup();
-    match view.decide(rt, &alloc, setup, &request, row.1) {
+    match view.decide(rt, &alloc, settings.setup(), &request, row.1) {
         Ok(decided) => Some(verdict_of(&decided)),
-        Err(_) => Some(Verdict::Nothing),
+        Err(AllocError) => Some(Verdict::Nothing),
+    }
+}
+
+/// What is decided of it by the users and the bindings that there are.
+fn decides_with<R: Wait>(
+    rt: &R,
+    alloc: Global,
+    settings: &ServiceSettings<Global>,
+    row: &Row<'_>,
+) -> Option<Verdict> {
+    let table = table_of(rt, alloc)?;
+    match UserList::read(alloc, USERS, Algorithms::Md5) {
+        Ok(users) => decides_by(rt, alloc, settings, &users, &table, row),
+        Err(_) => None,
+    }
+}
+
+/// Whether it is decided of the request of a row what has to be.
+fn is_decided<R: Wait>(rt: &R, alloc: Global, row: &Row<'_>) -> bool {
+    match settings_from(alloc, row.0) {
+        Some(settings) => decides_with(rt, alloc, &settings, row) == Some(row.5),
+        None => false,
     }
 }
 
@@ -115,7 +138,7 @@ const ABROAD: &[u8] = b"INVITE sip:+15550100@example.com SIP/2.0";
 
 const ELSEWHERE: &[u8] = b"INVITE sip:x@203.0.113.1 SIP/2.0";
 
-const ROWS: [Row<'static>; 12] = [
+const ROWS: &[Row<'static>] = &[
     // who is trusted opens all
     (
         REALM,
@@ -176,29 +199,37 @@ const ROWS: [Row<'static>; 12] = [
     ),
 ];
 
+/// They stand in a function of their own: a proof reads a constant wherever it is named, once for each call beside it.
+fn rows() -> &'static [Row<'static>] {
+    ROWS
+}
+
 #[test]
 fn requests_are_decided(rt: HostRuntime) {
-    for row in ROWS {
-        let decided = decides(&rt, rt.alloc(), &row);
-        holds(&rt, decided == Some(row.5), "what is decided of a request");
+    for row in rows() {
+        let well = is_decided(&rt, rt.alloc(), row);
+        holds(&rt, well, "what is decided of a request");
     }
+}
+
+/// A service without a realm, whose user has a location.
+const PLAIN: &[u8] =
+    b"own 192.0.2.9 5060\ndomain example.com\nlocation bob 1000 sip:bob@192.0.2.4\n";
+
+const HERE: Hop = Hop {
+    addr: [127, 0, 0, 1],
+    port: 5070,
+    transport: Transport::Udp,
+};
+
+const TO_BOB: &[u8] = b"t: <sip:bob@example.com>";
+
+fn plain_row() -> Row<'static> {
+    (PLAIN, HERE, FOR_BOB, EVE, TO_BOB, Verdict::Stands)
 }
 
 #[test]
 fn without_a_realm_nothing_changes_for_who_is_trusted(rt: HostRuntime) {
-    let text = b"own 192.0.2.9 5060\ndomain example.com\nlocation bob 1000 sip:bob@192.0.2.4\n";
-    let row: Row<'_> = (
-        text,
-        Hop {
-            addr: [127, 0, 0, 1],
-            port: 5070,
-            transport: Transport::Udp,
-        },
-        FOR_BOB,
-        EVE,
-        b"t: <sip:bob@example.com>",
-        Verdict::Stands,
-    );
-    let decided = decides(&rt, rt.alloc(), &row);
-    holds(&rt, decided == Some(row.5), "a user with a location");
+    let well = is_decided(&rt, rt.alloc(), &plain_row());
+    holds(&rt, well, "a user with a location");
 }

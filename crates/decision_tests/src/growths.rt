@@ -37,39 +37,22 @@ const OUTSIDE: Hop = Hop {
 };
 
 /// By what a service goes, and the requests that come: a REGISTER of bob, and an INVITE for him that he says to send.
-#[derive(Drop)]
-struct World<'a> {
-    settings: ServiceSettings<Scarce<'a>>,
-    users: UserList<Scarce<'a>>,
-    register: Message<Scarce<'a>>,
-    invite: Message<Scarce<'a>>,
-}
-
-fn world_of(ample: Scarce<'_>) -> Option<World<'_>> {
-    let Ok(users) = UserList::read(ample, USERS, Algorithms::Md5) else {
-        return None;
-    };
-    Some(World {
-        settings: settings_from(ample, SETTINGS)?,
-        users,
-        register: register_of(ample, b"CSeq: 1 REGISTER", b"m: <sip:bob@10.0.0.2:5070>")?,
-        invite: request_from(
-            ample,
-            b"INVITE sip:bob@example.com SIP/2.0",
-            b"f: <sip:bob@example.com>;tag=1",
-            b"t: <sip:bob@example.com>",
-        )?,
-    })
+#[derive(Clone, Copy)]
+struct World<'w, 'a> {
+    settings: &'w ServiceSettings<Scarce<'a>>,
+    users: &'w UserList<Scarce<'a>>,
+    register: &'w Message<Scarce<'a>>,
+    invite: &'w Message<Scarce<'a>>,
 }
 
 /// The service as each request finds it.
 fn view_of<'w, 'a>(
-    world: &'w World<'a>,
+    world: World<'w, 'a>,
     table: &'w ScarceTable<'a>,
 ) -> ServiceView<'w, Scarce<'a>> {
     ServiceView {
-        settings: &world.settings,
-        users: Some(&world.users),
+        settings: world.settings,
+        users: Some(world.users),
         secret: SECRET,
         bindings: table,
         has_bindings: true,
@@ -78,27 +61,43 @@ fn view_of<'w, 'a>(
     }
 }
 
+/// Drops a value. A function that drops one of many fields itself is proved field by field.
+fn discard<T: Drop>(_value: T) {}
+
 /// The REGISTER binds a contact. Where it is refused there are as many bindings as before, and no change is under way.
 #[derive(Drop)]
 struct Registering<'t, 'a, R> {
     rt: &'t R,
-    world: &'t World<'a>,
+    world: World<'t, 'a>,
     table: &'t ScarceTable<'a>,
     alloc: Scarce<'a>,
+}
+
+/// Whether it is answered with 200, and there is one binding more than before once the change is made.
+fn binds_one_more<'a, R: Wait>(
+    rt: &R,
+    table: &ScarceTable<'a>,
+    registered: Registered<Scarce<'a>>,
+    before: u64,
+) -> bool {
+    match registered {
+        Registered::Changes(change, answer) => {
+            table.commit(rt, change);
+            answer.status().code() == 200 && table.count(rt) == before.saturating_add(1)
+        }
+        Registered::Answered(_answer, _noted) => false,
+        Registered::Waits => false,
+    }
 }
 
 impl<R: Wait> Repeated for Registering<'_, '_, R> {
     fn attempt(&mut self) -> Attempt {
         let before = self.table.count(self.rt);
-        let view = view_of(self.world, self.table);
-        let setup = self.world.settings.setup();
-        match view.register(self.rt, &self.alloc, setup, &self.world.register, INSIDE) {
-            Ok(Registered::Changes(change, answer)) => {
-                self.table.commit(self.rt, change);
-                let is_one_more = self.table.count(self.rt) == before.saturating_add(1);
-                Attempt::of(answer.status().code() == 200 && is_one_more)
-            }
-            Ok(_) => Attempt::Wrong,
+        let world = self.world;
+        let view = view_of(world, self.table);
+        let setup = world.settings.setup();
+        match view.register(self.rt, &self.alloc, setup, world.register, INSIDE) {
+            Ok(registered) => Attempt::of(binds_one_more(self.rt, self.table, registered, before)),
             Err(AllocError) => Attempt::failed(self.table.count(self.rt) == before),
         }
     }
@@ -108,7 +107,7 @@ impl<R: Wait> Repeated for Registering<'_, '_, R> {
 #[derive(Drop)]
 struct Deciding<'t, 'a, R> {
     rt: &'t R,
-    world: &'t World<'a>,
+    world: World<'t, 'a>,
     table: &'t ScarceTable<'a>,
     alloc: Scarce<'a>,
     source: Hop,
@@ -126,21 +125,26 @@ fn is_decided(decided: &Decided<Scarce<'_>>, status: Option<u16>) -> bool {
 
 impl<R: Wait> Repeated for Deciding<'_, '_, R> {
     fn attempt(&mut self) -> Attempt {
-        let view = view_of(self.world, self.table);
-        let setup = self.world.settings.setup();
-        match view.decide(self.rt, &self.alloc, setup, &self.world.invite, self.source) {
-            Ok(decided) => Attempt::of(is_decided(&decided, self.status)),
+        let world = self.world;
+        let view = view_of(world, self.table);
+        let setup = world.settings.setup();
+        match view.decide(self.rt, &self.alloc, setup, world.invite, self.source) {
+            Ok(decided) => {
+                let well = is_decided(&decided, self.status);
+                discard(decided);
+                Attempt::of(well)
+            }
             Err(AllocError) => Attempt::failed(true),
         }
     }
 }
 
 /// Whether bob is bound, called by who is trusted, and asked for his password elsewhere.
-fn are_decided<'a, R: Wait>(
+fn are_decided<'t, 'a, R: Wait>(
     heap: Heap<'a>,
-    rt: &R,
-    world: &World<'a>,
-    table: &ScarceTable<'a>,
+    rt: &'t R,
+    world: World<'t, 'a>,
+    table: &'t ScarceTable<'a>,
 ) -> bool {
     let alloc = heap.scarce;
     let mut registering = Registering {
@@ -164,27 +168,73 @@ fn are_decided<'a, R: Wait>(
     is_bound && is_opened && heap.insist(&mut deciding)
 }
 
+/// The INVITE.
+fn invite_of(ample: Scarce<'_>) -> Option<Message<Scarce<'_>>> {
+    request_from(
+        ample,
+        b"INVITE sip:bob@example.com SIP/2.0",
+        b"f: <sip:bob@example.com>;tag=1",
+        b"t: <sip:bob@example.com>",
+    )
+}
+
+/// Whether that is so of these settings and users.
+fn are_decided_by<'a, R: Wait>(
+    heap: Heap<'a>,
+    rt: &R,
+    table: &ScarceTable<'a>,
+    settings: &ServiceSettings<Scarce<'a>>,
+    users: &UserList<Scarce<'a>>,
+) -> bool {
+    let contact = b"m: <sip:bob@10.0.0.2:5070>";
+    let register = register_of(heap.ample, b"CSeq: 1 REGISTER", contact);
+    let invite = invite_of(heap.ample);
+    let well = match (&register, &invite) {
+        (Some(register), Some(invite)) => {
+            let world = World {
+                settings,
+                users,
+                register,
+                invite,
+            };
+            are_decided(heap, rt, world, table)
+        }
+        _ => false,
+    };
+    discard(register);
+    discard(invite);
+    well
+}
+
+/// Whether that is so over this table.
+fn are_decided_over<'a, R: Wait>(heap: Heap<'a>, rt: &R, table: &ScarceTable<'a>) -> bool {
+    let settings = settings_from(heap.ample, SETTINGS);
+    let users = UserList::read(heap.ample, USERS, Algorithms::Md5);
+    let well = match (&settings, &users) {
+        (Some(settings), Ok(users)) => are_decided_by(heap, rt, table, settings, users),
+        _ => false,
+    };
+    discard(settings);
+    discard(users);
+    well
+}
+
 /// What comes to a service.
 #[derive(Drop)]
 struct Requests<'r, R> {
     rt: &'r R,
 }
 
-/// Drops a value. A function that drops one of many fields itself is proved field by field.
-fn discard<T: Drop>(_value: T) {}
-
 impl<R: Wait> Play for Requests<'_, R> {
     fn play(&self, heap: Heap<'_>) -> bool {
         heap.scarce.pause();
         let table = BindingTable::new(heap.scarce, 10);
         heap.scarce.go_on();
-        let world = world_of(heap.ample);
-        let well = match (&table, &world) {
-            (Ok(table), Some(world)) => are_decided(heap, self.rt, world, table),
-            _ => false,
+        let well = match &table {
+            Ok(table) => are_decided_over(heap, self.rt, table),
+            Err(AllocError) => false,
         };
         discard(table);
-        discard(world);
         well
     }
 }

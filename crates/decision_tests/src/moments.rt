@@ -2,12 +2,14 @@
 use crate::holds::holds;
 use crate::texts::{bindings_of, request_of, settings_of};
 use authentication::Rule;
-use proxy_config::{DialogToken, Setup};
+use proxy_config::{DialogToken, Location, Setup};
 use proxy_routing::hop_to;
-use service_decisions::{contacts_of, may_use_gateways, place_of, setup_for};
+use service_config::ServiceSettings;
+use service_decisions::{Place, contacts_of, may_use_gateways, place_of, setup_for};
 use sip_route::FirstRoute;
+use sip_text::Message;
 use sip_uri::{Hop, SipUri, Transport};
-use std::alloc::Global;
+use std::alloc::{AllocError, Global};
 
 const INSIDE: Hop = Hop {
     addr: [192, 0, 2, 130],
@@ -43,29 +45,50 @@ type Asked<'a> = (Rule, Hop, &'a [u8], &'a [u8], &'a [(Hop, u64)]);
 /// A setup that was made, or none; or that it was not asked for want of memory.
 type Made = Option<Option<Setup<Global>>>;
 
-/// The setup by which a request is opened at 1,000 ms.
-fn made(alloc: Global, asked: &Asked<'_>, token: Option<DialogToken>) -> Made {
-    let settings = settings_of(alloc)?;
-    let request = request_of(alloc, asked.2, asked.3)?;
+/// The setup by which a request is opened at a place, at 1,000 ms.
+fn made_at(
+    alloc: Global,
+    settings: &ServiceSettings<Global>,
+    request: &Message<Global>,
+    place: &Place<Global>,
+    asked: &Asked<'_>,
+    token: Option<DialogToken>,
+) -> Made {
     let bindings = bindings_of(alloc, asked.4)?;
-    let by_gateways = may_use_gateways(&settings, asked.0, asked.1);
-    let Ok(place) = place_of(alloc, settings.setup(), asked.0, &request) else {
-        return None;
-    };
-    let Ok(contacts) = contacts_of(alloc, &bindings, 1_000) else {
-        return None;
-    };
+    let contacts = contacts_of(alloc, &bindings, 1_000).ok()?;
     setup_for(
         alloc,
         settings.setup(),
         settings.gateways(),
-        by_gateways,
-        &place,
+        may_use_gateways(settings, asked.0, asked.1),
+        place,
         &contacts,
         token,
-        &request,
+        request,
     )
     .ok()
+}
+
+/// The setup by which it is opened by these settings.
+fn made_by(
+    alloc: Global,
+    settings: &ServiceSettings<Global>,
+    asked: &Asked<'_>,
+    token: Option<DialogToken>,
+) -> Made {
+    let request = request_of(alloc, asked.2, asked.3)?;
+    match place_of(alloc, settings.setup(), asked.0, &request) {
+        Ok(place) => made_at(alloc, settings, &request, &place, asked, token),
+        Err(AllocError) => None,
+    }
+}
+
+/// The setup by which it is opened.
+fn made(alloc: Global, asked: &Asked<'_>, token: Option<DialogToken>) -> Made {
+    match settings_of(alloc) {
+        Some(settings) => made_by(alloc, &settings, asked, token),
+        None => None,
+    }
 }
 
 /// Whether the setup as it stands leads there.
@@ -73,19 +96,26 @@ fn stands(made: Made) -> bool {
     matches!(made, Some(None))
 }
 
-/// Whether the targets of carol are these, by their keys and hops.
-fn reaches(made: Made, user: &[u8], wanted: &[(&[u8], Hop)]) -> bool {
-    let Some(Some(setup)) = made else {
-        return false;
-    };
+/// Whether a target has this user, this key and this hop.
+fn is_target(location: &Location, user: &[u8], wanted: (&[u8], Hop)) -> bool {
+    location.user() == user && location.key() == wanted.0 && location.next_hop() == Some(wanted.1)
+}
+
+/// Whether the targets of a setup are these, by their keys and hops.
+fn has_targets(setup: &Setup<Global>, user: &[u8], wanted: &[(&[u8], Hop)]) -> bool {
     let mut well = setup.locations().len() == wanted.len();
-    for (location, (key, hop)) in setup.locations().iter().zip(wanted) {
-        well = well
-            && location.user() == user
-            && location.key() == *key
-            && location.next_hop() == Some(*hop);
+    for (location, target) in setup.locations().iter().zip(wanted) {
+        well = well && is_target(location, user, *target);
     }
     well
+}
+
+/// Whether the targets of this user are these.
+fn reaches(made: Made, user: &[u8], wanted: &[(&[u8], Hop)]) -> bool {
+    match made {
+        Some(Some(setup)) => has_targets(&setup, user, wanted),
+        Some(None) | None => false,
+    }
 }
 
 const FOR_CAROL: &[u8] = b"INVITE sip:carol@example.com SIP/2.0";
