@@ -176,17 +176,48 @@ fn tell_whom_it_serves<R: Eprint>(rt: &R, settings: &ServiceSettings<Global>) {
     }
 }
 
-/// Serves as a configuration says, at its address, which is taken first.
+/// How a run begins: with these options and this number, at this moment, with a secret of its own.
+fn start_of<'a, R: Clock + RandomSource>(
+    rt: &R,
+    options: Options<'a>,
+    number: u32,
+) -> Result<StartOptions<'a>, DaemonFault>
+    ensures { IfErr result IsSystemFault }
+{
+    let mut secret = [0u8; 32];
+    if rt.fill_bytes(&mut secret).is_err() {
+        return Err(DaemonFault::Random);
+    }
+    Ok(StartOptions {
+        options,
+        number,
+        began: millis_since_1970(rt),
+        secret,
+    })
+}
+
+/// Serves as a configuration says, in a run with this number, at its address, which is taken first.
 fn serve_configuration<
-    R: Threads + Wait + Net + ProxyFiles + PageSockets + Clock + Print + Eprint + Sync,
+    R: Threads
+        + Wait
+        + Net
+        + ProxyFiles
+        + PageSockets
+        + Clock
+        + Print
+        + Eprint
+        + RandomSource
+        + Sync,
 >(
     rt: &R,
     alloc: Global,
     configuration: Configuration,
-    start: StartOptions<'_>,
+    number: u32,
+    options: Options<'_>,
 ) -> Result<(), DaemonFault>
     ensures { IfErr result IsSystemFault }
 {
+    let start = start_of(rt, options, number)?;
     tell_whom_it_serves(rt, &configuration.settings);
     let own = own_of(configuration.settings.setup());
     let socket = bound(rt, own)?;
@@ -215,26 +246,6 @@ pub fn check_config<R: ProxyFiles>(
     ensures { IfErr result IsConfigurationFault }
 {
     check_files(rt, alloc, config, users)
-}
-
-/// How a run begins: with these options and this number, at this moment, with a secret of its own.
-fn start_of<'a, R: Clock + RandomSource>(
-    rt: &R,
-    options: Options<'a>,
-    number: u32,
-) -> Result<StartOptions<'a>, DaemonFault>
-    ensures { IfErr result IsSystemFault }
-{
-    let mut secret = [0u8; 32];
-    if rt.fill_bytes(&mut secret).is_err() {
-        return Err(DaemonFault::Random);
-    }
-    Ok(StartOptions {
-        options,
-        number,
-        began: millis_since_1970(rt),
-        secret,
-    })
 }
 
 /// Serves as [`serve`] does, by these texts of a configuration and of its users, if there are any; `reload` reads their files. Where a
@@ -268,8 +279,7 @@ pub fn serve_text<
     ensures fault { IfErr result (IsServeFaultOf text.now (option_copied users.entry) number) }
 {
     let configuration = read_text(alloc, text, users, number)?;
-    let start = start_of(rt, options, number)?;
-    serve_configuration(rt, alloc, configuration, start)
+    serve_configuration(rt, alloc, configuration, number, options)
 }
 
 /// How many milliseconds have passed since the beginning of 1970; 0 where the clock cannot be read.
