@@ -122,7 +122,7 @@ fn opened<R: Net + Files>(rt: &R, path: &str) -> io::Result<UnixListener> {
     UnixListener::bind(rt, path)
 }
 
-const LINES: [(&str, &str); 12] = [
+const LINES: &[(&str, &str)] = &[
     ("stats", "calls 0\n"),
     ("calls", "calls from 0\n"),
     ("calls 300", "calls from 300\n"),
@@ -140,15 +140,28 @@ const LINES: [(&str, &str); 12] = [
     ("reload", ""),
 ];
 
+/// They stand in a function of their own: a proof reads a constant wherever it is named, once for each call beside it.
+fn lines() -> &'static [(&'static str, &'static str)] {
+    LINES
+}
+
+/// The first line that is not answered as it should be.
+fn unanswered<R: Net + Clock>(rt: &R, alloc: Global, path: &str) -> Option<&'static str> {
+    for &(line, answer) in lines() {
+        if !answers(rt, alloc, path, line, answer) {
+            return Some(line);
+        }
+    }
+    None
+}
+
 /// Asks all that can be asked beside clients that are silent or write slowly, and says which line was not answered as it should be.
 fn asks<R: Net + Clock>(rt: &R, alloc: Global, path: &str) -> io::Result<&'static str> {
     let mut slow = left_open(rt, path, "sta")?;
     let silent = left_open(rt, path, "")?;
     let mut cut_off = left_open(rt, path, "stop 3")?;
-    for (line, answer) in LINES {
-        if !answers(rt, alloc, path, line, answer) {
-            return Ok(line);
-        }
+    if let Some(line) = unanswered(rt, alloc, path) {
+        return Ok(line);
     }
     slow.write_all(b"ts\n")?;
     if !reads(alloc, &mut slow, "calls 0\n") {

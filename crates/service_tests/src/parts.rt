@@ -94,28 +94,47 @@ const USERS: &[u8] = b"# the office\nbob 2664cba6663a734ef3a6fefc0c0d0821 -\n";
 /// A list whose second line is malformed.
 const MALFORMED: &[u8] = b"\nbob -\n";
 
+/// A configuration, the list of its users, and why they are refused.
+type UsersRow = (&'static [u8], Option<&'static [u8]>, Option<DaemonFault>);
+
+const USERS_ROWS: &[UsersRow] = &[
+    (OF_REALM, Some(USERS), None),
+    (
+        OF_REALM,
+        None,
+        Some(DaemonFault::Users(UsersFault::NoUsers)),
+    ),
+    (
+        OF_REALM,
+        Some(MALFORMED),
+        Some(DaemonFault::Users(UsersFault::Line(2))),
+    ),
+    (
+        CONFIGURATION,
+        Some(USERS),
+        Some(DaemonFault::Users(UsersFault::NoRealm)),
+    ),
+    (CONFIGURATION, None, None),
+];
+
+/// They stand in a function of their own: a proof reads a constant wherever it is named, once for each call beside it.
+fn users_rows() -> &'static [UsersRow] {
+    USERS_ROWS
+}
+
 /// Why a configuration with these users is refused, if it is.
 fn refused_for(alloc: Global, text: &[u8], users: Option<&[u8]>) -> Option<DaemonFault> {
     match read_text(alloc, text, users, RUN) {
-        Ok(_) => None,
+        Ok(_configuration) => None,
         Err(fault) => Some(fault),
     }
 }
 
 #[test]
 fn a_realm_has_a_list_of_users(rt: HostRuntime) {
-    let alloc = rt.alloc();
-    let rows: [(&[u8], Option<&[u8]>, Option<UsersFault>); 5] = [
-        (OF_REALM, Some(USERS), None),
-        (OF_REALM, None, Some(UsersFault::NoUsers)),
-        (OF_REALM, Some(MALFORMED), Some(UsersFault::Line(2))),
-        (CONFIGURATION, Some(USERS), Some(UsersFault::NoRealm)),
-        (CONFIGURATION, None, None),
-    ];
-    for (text, users, fault) in rows {
-        let expected = fault.map(|why| DaemonFault::Users(why));
-        let refused = refused_for(alloc, text, users);
-        holds(&rt, refused == expected, "the users of a realm");
+    for &(text, users, fault) in users_rows() {
+        let refused = refused_for(rt.alloc(), text, users);
+        holds(&rt, refused == fault, "the users of a realm");
     }
 }
 
