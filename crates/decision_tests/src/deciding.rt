@@ -78,12 +78,12 @@ fn table_of<R: Wait>(rt: &R, alloc: Global) -> Option<BindingTable<UserBindings<
 type Row<'a> = (&'a [u8], Hop, &'a [u8], &'a [u8], &'a [u8], Verdict);
 
 /// What is decided of the request of a row at 1,000 ms, by these settings, users and bindings.
-fn decides_by<R: Wait>(
+fn decides_by<'v, R: Wait>(
     rt: &R,
     alloc: Global,
-    settings: &ServiceSettings<Global>,
-    users: &UserList<Global>,
-    table: &BindingTable<UserBindings<Global>, Global>,
+    settings: &'v ServiceSettings<Global>,
+    users: &'v UserList<Global>,
+    table: &'v BindingTable<UserBindings<Global>, Global>,
     row: &Row<'_>,
 ) -> Option<Verdict> {
     let request = request_from(alloc, row.2, row.3, row.4)?;

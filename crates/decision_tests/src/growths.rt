@@ -168,55 +168,19 @@ fn are_decided<'t, 'a, R: Wait>(
     is_bound && is_opened && heap.insist(&mut deciding)
 }
 
+/// The REGISTER.
+fn bobs_register(ample: Scarce<'_>) -> Option<Message<Scarce<'_>>> {
+    register_of(ample, b"CSeq: 1 REGISTER", b"m: <sip:bob@10.0.0.2:5070>")
+}
+
 /// The INVITE.
-fn invite_of(ample: Scarce<'_>) -> Option<Message<Scarce<'_>>> {
+fn bobs_invite(ample: Scarce<'_>) -> Option<Message<Scarce<'_>>> {
     request_from(
         ample,
         b"INVITE sip:bob@example.com SIP/2.0",
         b"f: <sip:bob@example.com>;tag=1",
         b"t: <sip:bob@example.com>",
     )
-}
-
-/// Whether that is so of these settings and users.
-fn are_decided_by<'a, R: Wait>(
-    heap: Heap<'a>,
-    rt: &R,
-    table: &ScarceTable<'a>,
-    settings: &ServiceSettings<Scarce<'a>>,
-    users: &UserList<Scarce<'a>>,
-) -> bool {
-    let contact = b"m: <sip:bob@10.0.0.2:5070>";
-    let register = register_of(heap.ample, b"CSeq: 1 REGISTER", contact);
-    let invite = invite_of(heap.ample);
-    let well = match (&register, &invite) {
-        (Some(register), Some(invite)) => {
-            let world = World {
-                settings,
-                users,
-                register,
-                invite,
-            };
-            are_decided(heap, rt, world, table)
-        }
-        _ => false,
-    };
-    discard(register);
-    discard(invite);
-    well
-}
-
-/// Whether that is so over this table.
-fn are_decided_over<'a, R: Wait>(heap: Heap<'a>, rt: &R, table: &ScarceTable<'a>) -> bool {
-    let settings = settings_from(heap.ample, SETTINGS);
-    let users = UserList::read(heap.ample, USERS, Algorithms::Md5);
-    let well = match (&settings, &users) {
-        (Some(settings), Ok(users)) => are_decided_by(heap, rt, table, settings, users),
-        _ => false,
-    };
-    discard(settings);
-    discard(users);
-    well
 }
 
 /// What comes to a service.
@@ -230,11 +194,27 @@ impl<R: Wait> Play for Requests<'_, R> {
         heap.scarce.pause();
         let table = BindingTable::new(heap.scarce, 10);
         heap.scarce.go_on();
-        let well = match &table {
-            Ok(table) => are_decided_over(heap, self.rt, table),
-            Err(AllocError) => false,
+        let settings = settings_from(heap.ample, SETTINGS);
+        let users = UserList::read(heap.ample, USERS, Algorithms::Md5);
+        let register = bobs_register(heap.ample);
+        let invite = bobs_invite(heap.ample);
+        let well = match (&table, &settings, &users, &register, &invite) {
+            (Ok(table), Some(settings), Ok(users), Some(register), Some(invite)) => {
+                let world = World {
+                    settings,
+                    users,
+                    register,
+                    invite,
+                };
+                are_decided(heap, self.rt, world, table)
+            }
+            _ => false,
         };
         discard(table);
+        discard(settings);
+        discard(users);
+        discard(register);
+        discard(invite);
         well
     }
 }

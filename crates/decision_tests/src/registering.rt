@@ -98,11 +98,11 @@ fn status_of<R: Wait>(
 }
 
 /// The status by which a REGISTER is answered, where the change that the answer tells is made.
-fn registers<R: Wait>(
+fn registers<'v, R: Wait>(
     rt: &R,
     alloc: Global,
-    settings: &ServiceSettings<Global>,
-    table: &BindingTable<UserBindings<Global>, Global>,
+    settings: &'v ServiceSettings<Global>,
+    table: &'v BindingTable<UserBindings<Global>, Global>,
     step: &Step<'_>,
 ) -> Option<u16> {
     let request = register_of(alloc, step.1, step.2)?;

@@ -63,7 +63,7 @@ fn add_line<A: Allocator>(text: &mut Vec<u8, A>, line: &[u8]) -> bool {
 }
 
 /// The CSeq of a request with this start line.
-fn cseq_of(start: &[u8]) -> &'static [u8] {
+fn cseq_of(start: &[u8]) -> &[u8] {
     match start.first() {
         Some(b'B') => b"CSeq: 1 BYE",
         Some(b'O') => b"CSeq: 1 OPTIONS",
@@ -78,12 +78,13 @@ pub fn request_of(alloc: Global, start: &[u8], to: &[u8]) -> Option<Message<Glob
 }
 
 /// The request with this start line, this From and this To.
-pub fn request_from<A: Allocator + Copy>(
+pub fn request_from<'t, A: Allocator + Copy>(
     alloc: A,
-    start: &[u8],
-    from: &[u8],
-    to: &[u8],
+    start: &'t [u8],
+    from: &'t [u8],
+    to: &'t [u8],
 ) -> Option<Message<A>> {
+    let cseq = cseq_of(start);
     let lines: [&[u8]; 8] = [
         start,
         b"v: SIP/2.0/UDP 192.0.2.1:5060;branch=z9hG4bKa;rport",
@@ -91,14 +92,18 @@ pub fn request_from<A: Allocator + Copy>(
         from,
         to,
         b"i: c1",
-        cseq_of(start),
+        cseq,
         b"",
     ];
     message_of(alloc, &lines)
 }
 
 /// The REGISTER of bob with this CSeq and this further line.
-pub fn register_of<A: Allocator + Copy>(alloc: A, cseq: &[u8], line: &[u8]) -> Option<Message<A>> {
+pub fn register_of<'t, A: Allocator + Copy>(
+    alloc: A,
+    cseq: &'t [u8],
+    line: &'t [u8],
+) -> Option<Message<A>> {
     let lines: [&[u8]; 9] = [
         b"REGISTER sip:example.com SIP/2.0",
         b"v: SIP/2.0/UDP 192.0.2.1:5060;branch=z9hG4bKa;rport",
