@@ -181,6 +181,8 @@ class Proxy:
         if not select.select([printed], [], [], 10)[0]:
             raise NotListening("the proxy does not listen")
         first = printed.readline()
+        if first.startswith("neither trust nor realm"):
+            first = printed.readline()
         if not first.startswith("listening"):
             raise NotListening("the proxy does not listen: " + first + printed.read())
 
