@@ -1,0 +1,9 @@
+pub mod Received
+pub mod Queued
+pub mod Queue
+pub mod Lifetime
+pub mod Sources
+pub mod Table
+pub mod Changing
+pub mod Reading
+pub mod Writing
