@@ -155,6 +155,12 @@ def configuration(instance, others=()):
     return "\n".join([*lines, *others]) + "\n"
 
 
+def first_line(printed):
+    """The first line that a proxy prints, behind what it says of whom it refuses."""
+    line = printed.readline()
+    return printed.readline() if line.startswith("neither trust nor realm") else line
+
+
 class NotListening(SystemExit):
     """A proxy that was started does not listen: it ends the script, unless that expects it."""
 
@@ -180,9 +186,7 @@ class Proxy:
         """Waits until it says that it listens."""
         if not select.select([printed], [], [], 10)[0]:
             raise NotListening("the proxy does not listen")
-        first = printed.readline()
-        if first.startswith("neither trust nor realm"):
-            first = printed.readline()
+        first = first_line(printed)
         if not first.startswith("listening"):
             raise NotListening("the proxy does not listen: " + first + printed.read())
 
