@@ -9,8 +9,6 @@ use Rattle.sip_lex.specs.Sheltered.{cut_outside}
 use Rattle.sip_text.specs.Name.{first_value}
 use Rattle.sip_text.specs.Text.{HeaderText, MessageText}
 use Rattle.sip_uri.specs.declared.hop.Hop.{Hop}
-use Rattle.sip_uri.specs.declared.hop.Transport.{Transport}
-use Rattle.sip_uri.specs.declared.hop.Transport.TheVariants.{Udp, Tcp, Back}
 use Rattle.sip_uri.specs.Hop.{hop_if_read}
 use Rattle.sip_uri.specs.Reading.{read_uri}
 use Rattle.sip_via.specs.declared.own.Own.{Own}
@@ -32,16 +30,10 @@ abbrev pub hop_at_text : Option (List ℕ) → Option Hop
 hop_at_text None = None
 hop_at_text (Some text) = hop_if_read (read_uri text)
 
-abbrev pub is_same_transport : Transport → Transport → Bool
-is_same_transport Udp Udp = true
-is_same_transport Tcp Tcp = true
-is_same_transport (Back port) (Back other) = port == other
-is_same_transport _ _ = false
-
--- the proxy itself: its address, its port and its transport
+-- the proxy itself: its address and its port, over whatever transport
 abbrev pub is_own : Own → Option Hop → Bool
 is_own own None = false
-is_own own (Some hop) = bytes_eq hop.addr own.addr && hop.port == own.port && is_same_transport hop.transport own.transport
+is_own own (Some hop) = bytes_eq hop.addr own.addr && hop.port == own.port
 
 abbrev pub names_own : Own → List ℕ → Bool
 names_own own value = is_own own (hop_at_text (bracketed value))

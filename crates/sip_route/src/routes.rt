@@ -2,10 +2,10 @@
 
 ghost use Rattle.std.specs.Prelude.{◌≡◌, Some};
 ghost use Rattle.std.specs.Option.{option_copied};
-ghost use Rattle.sip_route.specs.Routes.{bracketed, hop_at_text, is_own, is_same_transport, names_own};
+ghost use Rattle.sip_route.specs.Routes.{bracketed, hop_at_text, is_own, names_own};
 
 use sip_lex::{Shelter, cut_at, cut_outside};
-use sip_uri::{Hop, Transport, read_hop};
+use sip_uri::{Hop, read_hop};
 use sip_via::Own;
 
 /// The name of the field, in lower case.
@@ -27,27 +27,13 @@ pub(crate) fn hop_of(value: &[u8]) -> Option<Hop>
     read_hop(bracketed(value)?)
 }
 
-fn is_same_transport(transport: Transport, other: Transport) -> bool
-    ensures { result ≡ is_same_transport transport other }
-{
-    match (transport, other) {
-        (Transport::Udp, Transport::Udp) | (Transport::Tcp, Transport::Tcp) => true,
-        (Transport::Back(port), Transport::Back(other)) => port == other,
-        _ => false,
-    }
-}
-
-/// Whether a hop leads to the proxy itself: to its address and port, over its transport (RFC 3261 section 16.4).
+/// Whether a hop leads to the proxy itself: to its address and port, over whatever transport (RFC 3261 section 16.4).
 pub fn is_own(own: Own, hop: Option<Hop>) -> bool
     ensures { result ≡ is_own own hop }
 {
     match hop {
         None => false,
-        Some(hop) => {
-            hop.addr == own.addr
-                && hop.port == own.port
-                && is_same_transport(hop.transport, own.transport)
-        }
+        Some(hop) => hop.addr == own.addr && hop.port == own.port,
     }
 }
 

@@ -165,9 +165,13 @@ fn reads_all_routes(rt: HostRuntime) {
 }
 
 /// Lines with the proxy's own Route value first, and what is left of them.
-const STRIPPED: [(&[u8], &[u8]); 7] = [
+const STRIPPED: [(&[u8], &[u8]); 8] = [
     (b"Subject: x\r\nRoute: <sip:192.0.2.9;lr>", b"Subject: x"),
     (b"Route: <sip:192.0.2.9;lr> , <sip:b>", b"Route: <sip:b>"),
+    (
+        b"Route: <sip:192.0.2.9;transport=tcp;lr>, <sip:b>",
+        b"Route: <sip:b>",
+    ),
     (
         b"ROUTE: \"a, b\" <sip:192.0.2.9:5060>,\t<sip:b> ,<sip:c>",
         b"ROUTE: <sip:b> ,<sip:c>",
@@ -190,7 +194,7 @@ const KEPT: [&[u8]; 9] = [
     b"Routes: <sip:192.0.2.9>",
     b"Route: <sip:192.0.2.8>, <sip:192.0.2.9>",
     b"Route: <sip:192.0.2.9:5061>",
-    b"Route: <sip:192.0.2.9;transport=tcp>",
+    b"Route: <sip:192.0.2.9;transport=sctp>",
     b"Route: sip:192.0.2.9",
     b"Route: <sip:192.0.2.9",
     b"Route: ,<sip:192.0.2.9>",
@@ -204,7 +208,7 @@ const ITSELF: Hop = Hop {
     transport: Transport::Udp,
 };
 
-/// Hops, and whether each leads to the proxy itself, which is reached over UDP.
+/// Hops, and whether each leads to the proxy itself.
 const LED: [(Option<Hop>, bool); 6] = [
     (None, false),
     (Some(ITSELF), true),
@@ -221,14 +225,14 @@ const LED: [(Option<Hop>, bool); 6] = [
             transport: Transport::Tcp,
             ..ITSELF
         }),
-        false,
+        true,
     ),
     (
         Some(Hop {
             transport: Transport::Back(5060),
             ..ITSELF
         }),
-        false,
+        true,
     ),
 ];
 
