@@ -2,7 +2,7 @@
 use crate::call_counts::CallCounts;
 use crate::count::gauge;
 use crate::datagram_counts::DatagramCounts;
-use crate::latencies::HandlingTimes;
+use crate::durations::Durations;
 use crate::metric::append_metrics;
 use crate::sender_counts::SenderCounts;
 use std::alloc::{AllocError, Global};
@@ -13,7 +13,10 @@ pub struct Counts {
     pub calls: CallCounts,
     pub datagrams: DatagramCounts,
     pub senders: SenderCounts,
-    pub latencies: HandlingTimes,
+    /// How long datagrams took to be handled.
+    pub latencies: Durations,
+    /// How long it took to keep changes of bindings elsewhere, all that waited at once.
+    pub commits: Durations,
 }
 
 /// What is looked up at the moment in which the counters are asked for.
@@ -44,7 +47,8 @@ impl Counts {
             calls: CallCounts::new(),
             datagrams: DatagramCounts::new(),
             senders: SenderCounts::new(),
-            latencies: HandlingTimes::new(),
+            latencies: Durations::new(),
+            commits: Durations::new(),
         }
     }
 
@@ -66,7 +70,9 @@ impl Counts {
         self.calls.append(&mut text)?;
         self.datagrams.append(&mut text)?;
         self.senders.append(&mut text)?;
-        self.latencies.append(&mut text)?;
+        self.latencies
+            .append(&mut text, b"forkproxy_handling_micros")?;
+        self.commits.append(&mut text, b"forkproxy_store_micros")?;
         Ok(text)
     }
 }

@@ -1,4 +1,4 @@
-//! How long datagrams took to be handled.
+//! How long what is done again and again took.
 use crate::count::Count;
 use crate::histogram::{Histogram, HistogramClass, append_histogram, class_of};
 use std::alloc::AllocError;
@@ -6,16 +6,16 @@ use std::alloc::AllocError;
 /// The ends of the classes, in microseconds; what is longer has a class of its own.
 const CLASSES: [u64; 5] = [100, 500, 1_000, 10_000, 100_000];
 
-/// How long datagrams took to be handled, in microseconds.
+/// How long it took each time, in microseconds.
 #[derive(Drop)]
-pub struct HandlingTimes {
+pub struct Durations {
     within: [Count; 6],
     sum: Count,
 }
 
-impl HandlingTimes {
-    pub(crate) fn new() -> HandlingTimes {
-        HandlingTimes {
+impl Durations {
+    pub(crate) fn new() -> Durations {
+        Durations {
             within: [
                 Count::new(),
                 Count::new(),
@@ -28,7 +28,7 @@ impl HandlingTimes {
         }
     }
 
-    /// Counts a datagram that took so many microseconds.
+    /// Counts a time at which it took so many microseconds.
     pub fn add(&self, micros: u64) {
         self.sum.add(micros);
         if let Some(class) = self.within.get(class_of(&CLASSES, micros)) {
@@ -51,8 +51,8 @@ impl HandlingTimes {
         }
     }
 
-    /// Appends the histogram.
-    pub(crate) fn append(&self, text: &mut Vec<u8>) -> Result<(), AllocError> {
+    /// Appends the histogram, by this name.
+    pub(crate) fn append(&self, text: &mut Vec<u8>, name: &[u8]) -> Result<(), AllocError> {
         let buckets = [
             self.bucket(0),
             self.bucket(1),
@@ -61,7 +61,7 @@ impl HandlingTimes {
             self.bucket(4),
         ];
         let histogram = Histogram {
-            name: b"forkproxy_handling_micros",
+            name,
             buckets: &buckets,
             beyond: self.count(5),
             sum: self.sum.value(),
