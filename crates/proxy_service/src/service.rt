@@ -53,7 +53,7 @@ impl<A: Allocator + Copy> Service<A> {
             heap,
             settings,
             admission: ServiceAdmission::new(terms.most_calls),
-            users: ServiceUsers::new(heap, registry),
+            users: ServiceUsers::new(alloc, heap, registry, terms.has_store),
             calls,
             journal: JournalQueue::new(heap),
             counts: Counts::new(),
@@ -107,10 +107,11 @@ impl<A: Allocator + Copy> Service<A> {
         self.calls.schedule().wake();
     }
 
-    /// Ends, and wakes the thread that keeps the time.
+    /// Ends, and wakes the thread that keeps the time, and the one that keeps changes of bindings.
     pub fn end(&self) {
         self.admission.lifetime.end();
         self.calls.schedule().wake();
+        self.users.changes.wake();
     }
 
     /// Whether it stands so at this moment: it serves until `drain` or `end` is called, drains until `next_look` or `end` ends it, and has

@@ -17,6 +17,8 @@ pub struct RunSettings {
     pub most_bindings: u32,
     /// Whether calls are written down at their end.
     pub has_journal: bool,
+    /// Whether bindings are kept elsewhere, too, before they count.
+    pub has_store: bool,
     /// The millisecond since 1970 at which its moments begin.
     pub began: u64,
     /// What nonces and the tokens of dialogs are made with: bytes that nobody else has.

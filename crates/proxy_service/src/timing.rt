@@ -45,7 +45,10 @@ impl<A: Allocator + Copy> Service<A> {
             self.counts.calls.timers.add(1);
             self.calls.carry(rt, port, number, &visit);
         });
-        self.users.registry.sweep(rt, self.alloc, now);
+        let users = &self.users;
+        users
+            .registry
+            .sweep(rt, self.alloc, users.kept_changes(), now);
     }
 
     /// Ends a service that drains where its time has come, and answers until when the thread that keeps the time may sleep where nothing is

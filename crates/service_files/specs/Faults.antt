@@ -20,6 +20,7 @@ exit_status fault.Socket = 5
 exit_status fault.Control = 5
 exit_status fault.Metrics = 5
 exit_status fault.Journal = 5
+exit_status fault.Store = 5
 
 -- a configuration has at most so many bytes
 abbrev pub most_text : ℕ
@@ -82,6 +83,12 @@ abbrev pub IsJournalFault : DaemonFault → Type 0
 IsJournalFault fault.Journal = Unit {0}
 IsJournalFault fault.NoMemory = Unit {0}
 IsJournalFault _ = ⊥
+
+-- why the file in which bindings are kept cannot be used
+abbrev pub IsStoreFault : DaemonFault → Type 0
+IsStoreFault fault.Store = Unit {0}
+IsStoreFault fault.NoMemory = Unit {0}
+IsStoreFault _ = ⊥
 
 -- why the file of the users cannot be read
 abbrev pub IsUsersFault : DaemonFault → Type 0

@@ -49,6 +49,9 @@ pub enum DaemonFault {
     /// The file to which each call is written at its end could not be opened.
     #[error("the journal cannot be opened")]
     Journal,
+    /// The file in which bindings are kept could not be used.
+    #[error("the store cannot be used")]
+    Store,
 }
 
 impl DaemonFault {
@@ -68,7 +71,8 @@ impl DaemonFault {
             | DaemonFault::Socket
             | DaemonFault::Control
             | DaemonFault::Metrics
-            | DaemonFault::Journal => 5,
+            | DaemonFault::Journal
+            | DaemonFault::Store => 5,
         }
     }
 }

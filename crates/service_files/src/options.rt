@@ -11,6 +11,8 @@ pub struct Options<'a> {
     pub control: &'a str,
     /// The file to which each call is written at its end.
     pub journal: Option<&'a str>,
+    /// The file in which its bindings are kept, so that they survive it.
+    pub store: Option<&'a str>,
     /// How many calls it keeps at most; while it has so many it opens no more, but for a tenth of them for requests within dialogs. Left
     /// out, it follows the memory of the machine (see [`crate::memory::most_calls_here`]).
     pub most_calls: Option<u64>,

@@ -4,6 +4,7 @@ ghost use Rattle.bindings.specs.Bindings.{there};
 ghost use Rattle.std.specs.List.{flat_map};
 ghost use Rattle.service_users.specs.Told.{binding_line, contact_text};
 
+use crate::keeping::ChangeQueue;
 use crate::last_refused::append_place;
 use crate::registry::Registry;
 use binding_table::{ChangeFault, Walk};
@@ -164,7 +165,8 @@ impl<A: Allocator + Copy> Registry<A> {
     }
 
     /// Forgets the contacts that are bound to this user, and appends `forgotten N`; `unknown user USER` where nothing is kept of the user,
-    /// and `busy` and why where a REGISTER of this user is under way, so that nothing is forgotten.
+    /// and `busy` and why where a REGISTER of this user is under way, or too much waits to be kept, so that nothing is forgotten. Where
+    /// bindings are kept elsewhere, too, they are forgotten once that is kept.
     ///
     /// # Errors
     ///
@@ -172,14 +174,18 @@ impl<A: Allocator + Copy> Registry<A> {
     pub fn forget_user<R: Wait>(
         &self,
         rt: &R,
+        alloc: A,
+        keeping: Option<&ChangeQueue<A>>,
         user: &[u8],
         out: &mut Vec<u8>,
     ) -> Result<(), AllocError> {
-        match self.bindings.forget(rt, user) {
+        match self.forget(rt, alloc, keeping, user) {
             Ok(count) => append_forgotten(out, user, count),
             Err(ChangeFault::NoMemory) => Err(AllocError),
             Err(ChangeFault::Busy | ChangeFault::Full) => {
-                out.extend_from_slice(b"busy: a REGISTER of this user is under way\n")
+                out.extend_from_slice(
+                    b"busy: a REGISTER of this user is under way, or too many wait to be kept\n",
+                )
             }
         }
     }

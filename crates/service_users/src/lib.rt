@@ -4,13 +4,17 @@
 #![tactic(auto)]
 
 mod bound;
+mod keeping;
 mod last_refused;
 mod registry;
 mod serving;
+mod stored;
 mod sweeping;
 mod users;
 
+pub use keeping::ChangeQueue;
 pub use last_refused::LastRefused;
 pub use registry::Registry;
 pub use serving::ServedAt;
+pub use stored::Hearing;
 pub use users::ServiceUsers;

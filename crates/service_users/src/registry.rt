@@ -63,15 +63,25 @@ impl<A: Allocator + Copy> Registry<A> {
         self.bindings.count(rt)
     }
 
+    /// Notes that something is bound from now on, and answers whether nothing ever was before.
+    pub(crate) fn note_use(&self) -> bool {
+        !self.is_used.swap(true, Ordering::SeqCst)
+    }
+
+    /// Gives a change up that was prepared: the user keeps the old bindings.
+    pub(crate) fn give_up<R: Wait>(&self, rt: &R, change: PreparedChange<UserBindings<A>, A>) {
+        self.bindings.give_up(rt, change);
+    }
+
     /// Makes a change that was prepared: from now on the new bindings are looked at. It answers whether it is the first of all.
     pub(crate) fn commit<R: Wait>(
         &self,
         rt: &R,
         change: PreparedChange<UserBindings<A>, A>,
     ) -> bool {
-        let was_used = self.is_used.swap(true, Ordering::SeqCst);
+        let is_first = self.note_use();
         self.bindings.commit(rt, change);
-        !was_used
+        is_first
     }
 
     /// The service as a request finds it that came at this moment, in milliseconds, and this configuration.

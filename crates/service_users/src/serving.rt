@@ -1,7 +1,14 @@
 //! What a service decides of the requests that come.
+ghost use Rattle.std.specs.Prelude.{◌≡◌, IfOk, IfSome};
+ghost use Rattle.authentication.specs.Answer.{plain};
+ghost use Rattle.sip_build.specs.declared.responses.OwnStatus.TheVariants.{ServerInternalError};
+
+use crate::keeping::{ChangeQueue, PendingAnswers, PendingChange, unkept_answer};
 use crate::last_refused::Refused;
 use crate::users::ServiceUsers;
 use authentication::{OwnAnswer, append_note};
+use binding_table::PreparedChange;
+use bindings::UserBindings;
 use call_journal::append_shown;
 use call_table::Schedule;
 use fork_call::Setup;
@@ -161,31 +168,85 @@ impl<A: Allocator + Copy> ServedAt<'_, A> {
         }
     }
 
-    /// Makes what becomes of a REGISTER, and answers how it is answered. None where a change of the same user's bindings is under way: it
-    /// will come again.
+    /// Makes a change now.
+    fn commit<R: Wait>(&self, rt: &R, change: PreparedChange<UserBindings<A>, A>) {
+        if self.users.registry.commit(rt, change) {
+            // who keeps the time has not looked for bindings that end until now
+            self.schedule.wake();
+        }
+    }
+
+    /// Lets a change wait until it is kept, with the answers to its request by then. Where there is no room for it, it is given up, and the
+    /// request is answered at once.
+    fn commit_once_kept<R: Wait>(
+        &self,
+        rt: &R,
+        alloc: A,
+        queue: &ChangeQueue<A>,
+        change: PreparedChange<UserBindings<A>, A>,
+        answers: PendingAnswers<A>,
+    ) -> Option<OwnAnswer<A>>
+        ensures { IfSome result (λ answer. answer ≡ plain ServerInternalError) }
+    {
+        let pending = PendingChange {
+            change,
+            answers: Some(answers),
+        };
+        let back = queue.push(rt, pending)?;
+        self.users.registry.give_up(rt, back.into_change());
+        Some(unkept_answer(alloc))
+    }
+
+    /// Makes a change of a request that is answered so then: now, or, where changes wait until they are kept elsewhere, once it is kept, and
+    /// the request is answered then.
+    fn settle_change<R: Wait>(
+        &self,
+        rt: &R,
+        alloc: A,
+        queue: Option<&ChangeQueue<A>>,
+        request: &Message<A>,
+        source: Hop,
+        change: PreparedChange<UserBindings<A>, A>,
+        answer: OwnAnswer<A>,
+    ) -> Result<Option<OwnAnswer<A>>, AllocError>
+        ensures { IfSome queue.entry (λ _. IfOk result (λ now. IfSome now (λ answer. answer ≡ plain ServerInternalError))) }
+    {
+        let Some(queue) = queue else {
+            self.commit(rt, change);
+            return Ok(Some(answer));
+        };
+        match PendingAnswers::of(alloc, request, source, &answer) {
+            Ok(answers) => Ok(self.commit_once_kept(rt, alloc, queue, change, answers)),
+            Err(AllocError) => {
+                self.users.registry.give_up(rt, change);
+                Err(AllocError)
+            }
+        }
+    }
+
+    /// Makes what becomes of a REGISTER, and answers how it is answered now. None where it is answered once its change is kept, or where a
+    /// change of the same user's bindings is under way: it will come again.
     fn settle<R: Wait>(
         &self,
         rt: &R,
+        alloc: A,
         request: &Message<A>,
         arrived: Arrived,
         registered: Registered<A>,
-    ) -> Option<OwnAnswer<A>> {
+    ) -> Result<Option<OwnAnswer<A>>, AllocError> {
         match registered {
             Registered::Answered(answer, noted) => {
                 self.note(rt, &noted, arrived.source);
                 if is_refusal(&answer, &noted) {
                     self.keep_answered(rt, request, arrived, &answer, &noted);
                 }
-                Some(answer)
+                Ok(Some(answer))
             }
             Registered::Changes(change, answer) => {
-                if self.users.registry.commit(rt, change) {
-                    // who keeps the time has not looked for bindings that end until now
-                    self.schedule.wake();
-                }
-                Some(answer)
+                let queue = self.users.kept_changes();
+                self.settle_change(rt, alloc, queue, request, arrived.source, change, answer)
             }
-            Registered::Waits => None,
+            Registered::Waits => Ok(None),
         }
     }
 }
@@ -241,7 +302,8 @@ impl<A: Allocator + Copy> Admission<A> for ServedAt<'_, A> {
         now: u64,
     ) -> Result<Option<OwnAnswer<A>>, AllocError> {
         let registered = self.view.register(rt, alloc, setup, request, source)?;
-        let answer = self.settle(rt, request, Arrived { source, at: now }, registered);
+        let arrived = Arrived { source, at: now };
+        let answer = self.settle(rt, *alloc, request, arrived, registered)?;
         if let Some(answer) = &answer {
             self.counts.registrations.add(answer.status().code());
         }
