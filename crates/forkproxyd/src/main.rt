@@ -7,6 +7,7 @@ use metrics::PageSockets;
 use service_config::{UserLineFault, user_line};
 use service_files::{DaemonFault, Options, ProxyFiles};
 use service_threads::{check_config, serve};
+use service_writers::ProxyStores;
 use std::alloc::{AllocError, Global};
 use std::io::{Eprint, Print, Read};
 use std::net::Net;
@@ -119,6 +120,12 @@ fn with_files<'a>(alloc: Global, command: Command<'a>) -> Result<Command<'a>, Al
         ))?
         .arg(file_arg(
             alloc,
+            "store",
+            "FILE",
+            "the file in which what telephones register is kept, an SQLite database; it is kept in memory alone if left out",
+        ))?
+        .arg(file_arg(
+            alloc,
             "check-config",
             "FILE",
             "reads a configuration, and says whether it is well-formed, with its users where they are named",
@@ -199,6 +206,8 @@ fn workers_here<R: Threads>(handle: &R) -> usize {
 fn ended(rt: &HostRuntime, ran: Result<(), DaemonFault>) -> u8 {
     match ran {
         Ok(()) => 0,
+        // why the store cannot be used was told as it was opened
+        Err(DaemonFault::Store) => DaemonFault::Store.status(),
         Err(fault) => {
             let _ = rt.eprintln(fault);
             fault.status()
@@ -326,6 +335,7 @@ fn served<
         + Net
         + ProxyFiles
         + PageSockets
+        + ProxyStores
         + Clock
         + Print
         + Eprint
@@ -350,6 +360,7 @@ fn served<
         users: matches.get_str("users"),
         control,
         journal: matches.get_str("journal"),
+        store: matches.get_str("store"),
         most_calls: matches.get_one::<u64>("most-calls"),
         most_bindings: matches
             .get_one::<u32>("most-bindings")
@@ -370,6 +381,7 @@ fn run<
         + Net
         + ProxyFiles
         + PageSockets
+        + ProxyStores
         + Clock
         + Print
         + Eprint

@@ -6,7 +6,7 @@ use Rattle.service_files.specs.Configured.{AreUsers, IsConfigured, SpellsUsers, 
 use Rattle.service_files.specs.declared.setup.Configuration.{Configuration}
 use Rattle.service_files.specs.declared.fault.DaemonFault.{DaemonFault}
 use Rattle.service_files.specs.declared.fault.DaemonFault.TheVariants as fault
-use Rattle.service_files.specs.Faults.{most_text, IsConfigurationFault, IsControlFault, IsFaultOf, IsJournalFault, IsMetricsFault, IsSocketFault}
+use Rattle.service_files.specs.Faults.{most_text, IsConfigurationFault, IsControlFault, IsFaultOf, IsJournalFault, IsMetricsFault, IsSocketFault, IsStoreFault}
 use Rattle.service_threads.specs.Faults.{IsServeFault, IsServeFaultOf, IsSystemFault, Spells}
 
 pub socket_is_system : (f : DaemonFault) → IsSocketFault f → IsSystemFault f
@@ -22,6 +22,7 @@ socket_is_system fault.Clock is = absurd is
 socket_is_system fault.Control is = absurd is
 socket_is_system fault.Metrics is = absurd is
 socket_is_system fault.Journal is = absurd is
+socket_is_system fault.Store is = absurd is
 
 pub control_is_system : (f : DaemonFault) → IsControlFault f → IsSystemFault f
 control_is_system fault.Control is = tt
@@ -36,10 +37,12 @@ control_is_system fault.Clock is = absurd is
 control_is_system fault.Socket is = absurd is
 control_is_system fault.Metrics is = absurd is
 control_is_system fault.Journal is = absurd is
+control_is_system fault.Store is = absurd is
 
 pub metrics_is_system : (f : DaemonFault) → IsMetricsFault f → IsSystemFault f
 metrics_is_system fault.Metrics is = tt
 metrics_is_system fault.Journal is = absurd is
+metrics_is_system fault.Store is = absurd is
 metrics_is_system fault.NoMemory is = tt
 metrics_is_system fault.Unreadable is = absurd is
 metrics_is_system fault.TooLong is = absurd is
@@ -53,6 +56,7 @@ metrics_is_system fault.Control is = absurd is
 
 pub journal_is_system : (f : DaemonFault) → IsJournalFault f → IsSystemFault f
 journal_is_system fault.Journal is = tt
+journal_is_system fault.Store is = absurd is
 journal_is_system fault.NoMemory is = tt
 journal_is_system fault.Unreadable is = absurd is
 journal_is_system fault.TooLong is = absurd is
@@ -64,6 +68,21 @@ journal_is_system fault.Clock is = absurd is
 journal_is_system fault.Socket is = absurd is
 journal_is_system fault.Control is = absurd is
 journal_is_system fault.Metrics is = absurd is
+
+pub store_is_system : (f : DaemonFault) → IsStoreFault f → IsSystemFault f
+store_is_system fault.Store is = tt
+store_is_system fault.NoMemory is = tt
+store_is_system fault.Unreadable is = absurd is
+store_is_system fault.TooLong is = absurd is
+store_is_system (fault.Line n) is = absurd is
+store_is_system (fault.Users why) is = absurd is
+store_is_system fault.Random is = absurd is
+store_is_system fault.Identity is = absurd is
+store_is_system fault.Clock is = absurd is
+store_is_system fault.Socket is = absurd is
+store_is_system fault.Control is = absurd is
+store_is_system fault.Metrics is = absurd is
+store_is_system fault.Journal is = absurd is
 
 spelled_users : {A : Type 0} (algorithms : Option Algorithms) (text : Option (List ℕ)) (list : Option (UserList A)) → AreUsers algorithms text list → SpellsUsers algorithms text
 spelled_users (Some a) (Some t) (Some l) are = (are.0, are.1)
@@ -92,6 +111,7 @@ read_is_serve text users number fault.Socket is = absurd is
 read_is_serve text users number fault.Control is = absurd is
 read_is_serve text users number fault.Metrics is = absurd is
 read_is_serve text users number fault.Journal is = absurd is
+read_is_serve text users number fault.Store is = absurd is
 
 pub system_is_serve : (text : List ℕ) (users : Option (List ℕ)) (number : ℕ) (f : DaemonFault) → length text ≤ most_text → Spells text users number → IsSystemFault f → IsServeFaultOf text users number f
 system_is_serve text users number fault.NoMemory fits spells is = fits
@@ -100,6 +120,7 @@ system_is_serve text users number fault.Socket fits spells is = (fits, spells)
 system_is_serve text users number fault.Control fits spells is = (fits, spells)
 system_is_serve text users number fault.Metrics fits spells is = (fits, spells)
 system_is_serve text users number fault.Journal fits spells is = (fits, spells)
+system_is_serve text users number fault.Store fits spells is = (fits, spells)
 system_is_serve text users number fault.Unreadable fits spells is = absurd is
 system_is_serve text users number fault.TooLong fits spells is = absurd is
 system_is_serve text users number (fault.Line n) fits spells is = absurd is
@@ -119,6 +140,7 @@ configuration_is_serve fault.Socket is = tt
 configuration_is_serve fault.Control is = tt
 configuration_is_serve fault.Metrics is = tt
 configuration_is_serve fault.Journal is = tt
+configuration_is_serve fault.Store is = tt
 configuration_is_serve fault.Identity is = absurd is
 
 pub text_is_serve : (text : List ℕ) (users : Option (List ℕ)) (number : ℕ) (f : DaemonFault) → IsServeFaultOf text users number f → IsServeFault f
@@ -133,4 +155,5 @@ text_is_serve text users number fault.Socket is = tt
 text_is_serve text users number fault.Control is = tt
 text_is_serve text users number fault.Metrics is = tt
 text_is_serve text users number fault.Journal is = tt
+text_is_serve text users number fault.Store is = tt
 text_is_serve text users number fault.Identity is = absurd is

@@ -16,8 +16,8 @@ use Rattle.service_threads.proofs.idle.IdleWorkers.TheSendSync as idle
 use Rattle.service_threads.proofs.opening.Listeners.TheSendSync as listeners
 use Rattle.proxy_threads.proofs.packet.Packet.TheSendSync as packet
 use Rattle.service_threads.proofs.proxy.Paths.TheSendSync as paths
-use Rattle.service_threads.proofs.warnings.WarningWriter.TheSendSync as warnings
-use Rattle.service_threads.proofs.writer.JournalWriter.TheSendSync as journal
+use Rattle.service_writers.proofs.journal.JournalWriter.TheSendSync as journal
+use Rattle.service_writers.proofs.warnings.WarningWriter.TheSendSync as warnings
 use Rattle.proxy_threads.specs.contracts.groups.CallGroups as groups
 use Rattle.proxy_threads.specs.contracts.packet.Packet.{the_row as packet_row}
 use Rattle.service_threads.specs.contracts.proxy.ServiceProxy as proxy

@@ -17,6 +17,7 @@ IsSystemFault fault.Socket = Unit {0}
 IsSystemFault fault.Control = Unit {0}
 IsSystemFault fault.Metrics = Unit {0}
 IsSystemFault fault.Journal = Unit {0}
+IsSystemFault fault.Store = Unit {0}
 IsSystemFault _ = ⊥
 
 -- in a run with this number, with this list of users, if there is one
@@ -40,6 +41,7 @@ IsServeFaultOf text users number fault.Socket = IsRead text users number
 IsServeFaultOf text users number fault.Control = IsRead text users number
 IsServeFaultOf text users number fault.Metrics = IsRead text users number
 IsServeFaultOf text users number fault.Journal = IsRead text users number
+IsServeFaultOf text users number fault.Store = IsRead text users number
 IsServeFaultOf text users number _ = ⊥
 
 -- only a configuration that is read anew has another identity

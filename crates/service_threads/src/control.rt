@@ -107,7 +107,8 @@ impl<'a, R: Wait + Clock + ProxyFiles> ControlHandler for Control<'a, R> {
         let proxy = self.proxy;
         let mut text = Vec::new(proxy.alloc);
         let registry = &proxy.service.users().registry;
-        registry.forget_user(self.rt, user, &mut text)?;
+        let keeping = proxy.service.users().kept_changes();
+        registry.forget_user(self.rt, proxy.alloc, keeping, user, &mut text)?;
         Ok(text)
     }
 

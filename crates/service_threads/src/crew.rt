@@ -4,6 +4,7 @@ ghost use Rattle.sockets.specs.contracts.socket.Socket.{the_row as socket_row};
 ghost use Rattle.std.specs.Prelude.{IfErr};
 ghost use Rattle.service_threads.specs.Faults.{IsSystemFault};
 
+use binding_table::Keeper;
 use metrics::PageSockets;
 use service_files::{DaemonFault, ProxyFiles};
 use sockets::{Socket, is_shared};
@@ -19,6 +20,12 @@ pub(crate) trait ServerThreads<S> {
     /// Receives datagrams in this buffer and handles them, until the end. Where a receive failed the proxy ends.
     fn work<R: Wait + Clock>(&self, rt: &R, socket: &S, buffer: Vec<u8>) -> Result<(), DaemonFault>
         ensures { IfErr result IsSystemFault };
+
+    /// Keeps changes of bindings as they come, and answers the requests that make them, until the end.
+    fn keep<R: Wait + Clock, K: Keeper>(&self, rt: &R, socket: &S, keeper: &mut K);
+
+    /// Keeps the changes that came until the end.
+    fn keep_left<R: Wait + Clock, K: Keeper>(&self, rt: &R, socket: &S, keeper: &mut K);
 
     /// Does what is due, when it is, until the end.
     fn keep_time<R: Wait + Clock>(&self, rt: &R, socket: &S);
@@ -74,13 +81,15 @@ fn join_all<R: Threads>(rt: &R, workers: Vec<Worker>) -> Result<(), DaemonFault>
     all
 }
 
-/// Starts the threads that work, a worker for each buffer, and waits until they have ended. Where one could not be made all end.
-fn work_all<S: Sync, C: ServerThreads<S> + Sync, R: Threads + Wait + Clock + Sync>(
+/// Starts the threads that work, a worker for each buffer, and waits until they have ended; meanwhile this thread keeps changes of bindings, if
+/// there is a keeper. Where one could not be made all end.
+fn work_all<S: Sync, C: ServerThreads<S> + Sync, R: Threads + Wait + Clock + Sync, K: Keeper>(
     rt: &R,
     alloc: Global,
     crew: &C,
     socket: &S,
     buffers: Vec<Vec<u8>>,
+    keeper: &mut Option<K>,
 ) -> Result<(), DaemonFault>
     ensures { IfErr result IsSystemFault }
 {
@@ -101,8 +110,14 @@ fn work_all<S: Sync, C: ServerThreads<S> + Sync, R: Threads + Wait + Clock + Syn
             if !are_running {
                 crew.end();
             }
+            if let Some(keeper) = &mut *keeper {
+                crew.keep(rt, socket, keeper);
+            }
             let ended = join_all(rt, workers);
             crew.end();
+            if let Some(keeper) = &mut *keeper {
+                crew.keep_left(rt, socket, keeper);
+            }
             if are_running {
                 ended
             } else {
@@ -120,17 +135,18 @@ fn socket_is_shared(socket: &Socket)
 }
 
 /// Works until the end, and closes the socket, so that another proxy may have its address.
-fn work_and_close<C: ServerThreads<Socket> + Sync, R: Threads + Wait + Clock + Sync>(
+fn work_and_close<C: ServerThreads<Socket> + Sync, R: Threads + Wait + Clock + Sync, K: Keeper>(
     rt: &R,
     alloc: Global,
     crew: &C,
     socket: Socket,
     buffers: Vec<Vec<u8>>,
+    keeper: &mut Option<K>,
 ) -> Result<(), DaemonFault>
     ensures { IfErr result IsSystemFault }
 {
     socket_is_shared(&socket);
-    let ran = work_all(rt, alloc, crew, &socket, buffers);
+    let ran = work_all(rt, alloc, crew, &socket, buffers, keeper);
     drop(socket);
     ran
 }
@@ -139,7 +155,15 @@ fn work_and_close<C: ServerThreads<Socket> + Sync, R: Threads + Wait + Clock + S
 fn work_beside<
     C: ServerThreads<Socket> + Sync,
     R: Threads + Wait + ProxyFiles + PageSockets + Clock + Eprint + Sync,
->(rt: &R, alloc: Global, crew: &C, socket: Socket, buffers: Vec<Vec<u8>>) -> Result<(), DaemonFault>
+    K: Keeper,
+>(
+    rt: &R,
+    alloc: Global,
+    crew: &C,
+    socket: Socket,
+    buffers: Vec<Vec<u8>>,
+    keeper: &mut Option<K>,
+) -> Result<(), DaemonFault>
     ensures { IfErr result IsSystemFault }
 {
     thread::scope(
@@ -152,7 +176,7 @@ fn work_beside<
             let writes = scope.spawn(move || crew.write(rt)).is_ok();
             let warns = scope.spawn(move || crew.warn(rt)).is_ok();
             let ran = if shows && writes && warns {
-                work_and_close(rt, alloc, crew, socket, buffers)
+                work_and_close(rt, alloc, crew, socket, buffers, keeper)
             } else {
                 Err(DaemonFault::NoMemory)
             };
@@ -163,12 +187,20 @@ fn work_beside<
     )
 }
 
-/// Answers at the control socket while the proxy works, and ends in good order: who waits for the end there hears of it last, when all is
+/// Answers at the control socket while the proxy works, and changes of bindings are kept, if there is a keeper, and ends in good order: who waits for the end there hears of it last, when all is
 /// closed and written.
 pub(crate) fn run<
     C: ServerThreads<Socket> + Sync,
     R: Threads + Wait + ProxyFiles + PageSockets + Clock + Print + Eprint + Sync,
->(rt: &R, alloc: Global, crew: &C, socket: Socket, buffers: Vec<Vec<u8>>) -> Result<(), DaemonFault>
+    K: Keeper,
+>(
+    rt: &R,
+    alloc: Global,
+    crew: &C,
+    socket: Socket,
+    buffers: Vec<Vec<u8>>,
+    keeper: &mut Option<K>,
+) -> Result<(), DaemonFault>
     ensures { IfErr result IsSystemFault }
 {
     thread::scope(
@@ -178,7 +210,7 @@ pub(crate) fn run<
             ensures { IfErr result IsSystemFault }
         {
             let ran = if scope.spawn(move || crew.answer(rt)).is_ok() {
-                work_beside(rt, alloc, crew, socket, buffers)
+                work_beside(rt, alloc, crew, socket, buffers, keeper)
             } else {
                 Err(DaemonFault::NoMemory)
             };

@@ -4,15 +4,13 @@
 mod control;
 mod crew;
 mod idle;
+mod keeping;
 mod opening;
-mod pieces;
 mod port;
 mod proxy;
 mod receiving;
 mod serving;
 mod timer;
-mod warnings;
 mod worker;
-mod writer;
 
 pub use serving::{check_config, serve, serve_text};

@@ -1,15 +1,18 @@
-//! What a proxy takes of the system before it serves: its address, its journal, the address for scrapers, and the control socket, last of
-//! all, so that a proxy that is refused has taken nothing of one that serves.
+//! What a proxy takes of the system before it serves: its address, its store, its journal, the address for scrapers, and the control socket,
+//! last of all, so that a proxy that is refused has taken nothing of one that serves.
 ghost use Rattle.std.specs.Prelude.{IfErr};
 ghost use Rattle.service_threads.specs.Faults.{IsSystemFault};
 
+use crate::proxy::StartOptions;
 use metrics::PageSockets;
 use service_files::{
     DaemonFault, Options, ProxyFiles, control_fault, journal_fault, metrics_fault, socket_fault,
 };
+use service_writers::{OpenedStore, ProxyStores, open_named};
 use sip_uri::Hop;
 use sockets::{Socket, SocketWaits, datagram_buffer};
 use std::alloc::{AllocError, Global};
+use std::io::Eprint;
 use std::net::{Net, TcpListener};
 use std::os::unix::net::UnixListener;
 
@@ -71,6 +74,21 @@ fn open_control<R: ProxyFiles>(rt: &R, path: &str) -> Result<UnixListener, Daemo
     match rt.listen_at(path) {
         Ok(listener) => Ok(listener),
         Err(error) => Err(control_fault(error)),
+    }
+}
+
+/// Opens the store that a start names, if it names one.
+#[tactic(auto, using(crate::proofs::Faults::store_is_system))]
+pub(crate) fn open_store<R: ProxyStores + Eprint>(
+    rt: &R,
+    alloc: Global,
+    start: StartOptions<'_>,
+) -> Result<OpenedStore<R::Store>, DaemonFault>
+    ensures { IfErr result IsSystemFault }
+{
+    match open_named(rt, alloc, start.options.store, start.secret) {
+        Ok(opened) => Ok(opened),
+        Err(fault) => Err(fault),
     }
 }
 

@@ -1,10 +1,9 @@
 //! What the threads of a proxy share.
 use crate::receiving::Receiving;
-use crate::warnings::WarningWriter;
-use crate::writer::JournalWriter;
 use call_table::{Epoch, ThreadClock};
 use proxy_service::{RunSettings, Service};
 use service_files::{Configuration, Identity, Options, ProxyFiles, most_calls_here};
+use service_writers::{JournalWriter, WarningWriter};
 use sip_uri::Hop;
 use std::alloc::{AllocError, Global};
 use std::time::Clock;
@@ -78,6 +77,7 @@ fn terms_of<R: ProxyFiles>(
         },
         most_bindings: options.most_bindings,
         has_journal: options.journal.is_some(),
+        has_store: options.store.is_some(),
         began: start.began,
         secret: start.secret,
     }

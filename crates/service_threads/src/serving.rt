@@ -10,8 +10,9 @@ ghost use Rattle.service_threads.specs.Faults.{IsServeFault, IsServeFaultOf, IsS
 
 use crate::control::Control;
 use crate::crew::{ServerThreads, run};
-use crate::opening::{Listeners, bound, buffers_of, open_all};
+use crate::opening::{Listeners, bound, buffers_of, open_all, open_store};
 use crate::proxy::{ServiceProxy, StartOptions};
+use binding_table::{Keeper, KeptUser};
 use call_table::Epoch;
 use control_socket::listen;
 use libc::net;
@@ -23,6 +24,7 @@ use service_files::{
     Configuration, DaemonFault, Options, ProxyFiles, check_files, read_config, read_text,
     read_users,
 };
+use service_writers::{OpenedStore, ProxyStores, close_opened};
 use sip_uri::Hop;
 use sockets::{Socket, is_shared, print_listening};
 use std::alloc::Global;
@@ -62,6 +64,14 @@ impl ServerThreads<Socket> for Server {
         mut buffer: Vec<u8>,
     ) -> Result<(), DaemonFault> {
         self.proxy.work(rt, socket, buffer.as_mut_slice())
+    }
+
+    fn keep<R: Wait + Clock, K: Keeper>(&self, rt: &R, socket: &Socket, keeper: &mut K) {
+        self.proxy.keep_changes(rt, socket, keeper);
+    }
+
+    fn keep_left<R: Wait + Clock, K: Keeper>(&self, rt: &R, socket: &Socket, keeper: &mut K) {
+        self.proxy.keep_left(rt, socket, keeper);
     }
 
     fn keep_time<R: Wait + Clock>(&self, rt: &R, socket: &Socket) {
@@ -130,28 +140,61 @@ fn server_is_shared(server: &Server)
     is_shared(server);
 }
 
-/// Tells where the proxy listens, and lets it run until the end.
-fn run_server<R: Threads + Wait + ProxyFiles + PageSockets + Clock + Print + Eprint + Sync>(
-    rt: &R,
-    server: &Server,
+/// Where a proxy receives: its address, the socket there, and a buffer for each worker.
+#[derive(Drop)]
+struct Receivers {
+    own: Hop,
     socket: Socket,
     buffers: Vec<Vec<u8>>,
-) -> Result<(), DaemonFault>
+}
+
+/// Takes the address of a configuration, for so many workers.
+fn receivers_of<R: Net>(
+    rt: &R,
+    alloc: Global,
+    configuration: &Configuration,
+    workers: usize,
+) -> Result<Receivers, DaemonFault>
+    ensures { IfErr result IsSystemFault }
+{
+    let own = own_of(configuration.settings.setup());
+    let socket = bound(rt, own)?;
+    match buffers_of(alloc, workers.max(1)) {
+        Ok(buffers) => Ok(Receivers {
+            own,
+            socket,
+            buffers,
+        }),
+        Err(_) => Err(DaemonFault::NoMemory),
+    }
+}
+
+/// Tells where the proxy listens, and lets it run until the end; changes of its bindings are kept meanwhile, if there is a keeper.
+fn run_server<
+    R: Threads + Wait + ProxyFiles + PageSockets + Clock + Print + Eprint + Sync,
+    K: Keeper,
+>(rt: &R, server: &Server, receivers: Receivers, keeper: &mut Option<K>) -> Result<(), DaemonFault>
     ensures { IfErr result IsSystemFault }
 {
     server_is_shared(server);
-    let _ = print_listening(rt, server.proxy.own);
-    run(rt, server.proxy.alloc, server, socket, buffers)
+    let Receivers {
+        own,
+        socket,
+        buffers,
+    } = receivers;
+    let _ = print_listening(rt, own);
+    run(rt, server.proxy.alloc, server, socket, buffers, keeper)
 }
 
-/// A proxy without a call at this address, with its control socket, the address for scrapers and the journal: what options name is opened last,
-/// and the control socket behind all that may be refused.
-fn server_of<R: Clock + ProxyFiles + PageSockets>(
+/// A proxy without a call at this address, with what is kept of its users, its control socket, the address for scrapers and the journal: what
+/// options name is opened last, and the control socket behind all that may be refused.
+fn server_of<R: Wait + Clock + ProxyFiles + PageSockets>(
     rt: &R,
     alloc: Global,
     configuration: Configuration,
     start: StartOptions<'_>,
     own: Hop,
+    users: Vec<KeptUser>,
 ) -> Result<Server, DaemonFault>
     ensures { IfErr result IsSystemFault }
 {
@@ -161,6 +204,9 @@ fn server_of<R: Clock + ProxyFiles + PageSockets>(
     let Ok(proxy) = ServiceProxy::new(rt, alloc, start, configuration, own, epoch) else {
         return Err(DaemonFault::NoMemory);
     };
+    if proxy.service.users().restore(rt, users).is_err() {
+        return Err(DaemonFault::NoMemory);
+    }
     match open_all(rt, start.options) {
         Ok(listeners) => Ok(Server { proxy, listeners }),
         Err(fault) => Err(fault),
@@ -196,13 +242,49 @@ fn start_of<'a, R: Clock + RandomSource>(
     })
 }
 
-/// Serves as a configuration says, in a run with this number, at its address, which is taken first.
+/// How a run begins with what a store has: its secret is that of the store, where there is one.
+fn with_secret<'a>(start: StartOptions<'a>, secret: Option<[u8; 32]>) -> StartOptions<'a> {
+    match secret {
+        Some(secret) => StartOptions { secret, ..start },
+        None => start,
+    }
+}
+
+/// Serves as a configuration says, with what a store has, if there is one, which is closed at the end.
+fn serve_opened<
+    R: Threads + Wait + ProxyFiles + PageSockets + ProxyStores + Clock + Print + Eprint + Sync,
+>(
+    rt: &R,
+    alloc: Global,
+    configuration: Configuration,
+    start: StartOptions<'_>,
+    receivers: Receivers,
+    opened: OpenedStore<R::Store>,
+) -> Result<(), DaemonFault>
+    ensures { IfErr result IsSystemFault }
+{
+    let OpenedStore {
+        mut store,
+        secret,
+        users,
+    } = opened;
+    let start = with_secret(start, secret);
+    let ran = match server_of(rt, alloc, configuration, start, receivers.own, users) {
+        Ok(server) => run_server(rt, &server, receivers, &mut store),
+        Err(fault) => Err(fault),
+    };
+    close_opened(rt, store);
+    ran
+}
+
+/// Serves as a configuration says, in a run with this number, at its address, which is taken first, and then its store, if it has one.
 fn serve_configuration<
     R: Threads
         + Wait
         + Net
         + ProxyFiles
         + PageSockets
+        + ProxyStores
         + Clock
         + Print
         + Eprint
@@ -219,13 +301,9 @@ fn serve_configuration<
 {
     let start = start_of(rt, options, number)?;
     tell_whom_it_serves(rt, &configuration.settings);
-    let own = own_of(configuration.settings.setup());
-    let socket = bound(rt, own)?;
-    let Ok(buffers) = buffers_of(alloc, start.options.workers.max(1)) else {
-        return Err(DaemonFault::NoMemory);
-    };
-    match server_of(rt, alloc, configuration, start, own) {
-        Ok(server) => run_server(rt, &server, socket, buffers),
+    let receivers = receivers_of(rt, alloc, &configuration, start.options.workers)?;
+    match open_store(rt, alloc, start) {
+        Ok(opened) => serve_opened(rt, alloc, configuration, start, receivers, opened),
         Err(fault) => Err(fault),
     }
 }
@@ -261,6 +339,7 @@ pub fn serve_text<
         + Net
         + ProxyFiles
         + PageSockets
+        + ProxyStores
         + Clock
         + Print
         + Eprint
@@ -314,10 +393,10 @@ fn number_of_run<R: Clock>(rt: &R) -> u32 {
 /// # Errors
 ///
 /// The configuration's faults as [`check_config`] finds them, and `Users` for a realm without a file of users; `Random` where the system
-/// has no random bytes; `Socket` where the address cannot be bound or a receive failed; `Clock` where the clock cannot be read; `Journal`
-/// where the journal cannot be opened; `Metrics` where the address for scrapers cannot be bound; `Control` where the control socket
-/// cannot be made, or another proxy has it; `NoMemory` where the allocator refuses or a thread could not be made. A proxy that is refused
-/// has taken nothing of another one.
+/// has no random bytes; `Socket` where the address cannot be bound or a receive failed; `Clock` where the clock cannot be read; `Store`
+/// where the store cannot be used; `Journal` where the journal cannot be opened; `Metrics` where the address for scrapers cannot be bound;
+/// `Control` where the control socket cannot be made, or another proxy has it; `NoMemory` where the allocator refuses or a thread could
+/// not be made. A proxy that is refused has taken nothing of another one.
 #[tactic(auto, using(crate::proofs::Faults::configuration_is_serve, crate::proofs::Faults::text_is_serve))]
 pub fn serve<
     R: Threads
@@ -325,6 +404,7 @@ pub fn serve<
         + Net
         + ProxyFiles
         + PageSockets
+        + ProxyStores
         + Clock
         + Print
         + Eprint

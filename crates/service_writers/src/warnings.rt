@@ -16,7 +16,7 @@ const ONE_WAIT: i32 = 100;
 
 /// Who writes the warnings: whether all that will be written waits.
 #[derive(Drop)]
-pub(crate) struct WarningWriter {
+pub struct WarningWriter {
     is_whole: AtomicBool,
 }
 
@@ -32,14 +32,14 @@ fn can_warn() -> bool {
 
 impl WarningWriter {
     /// That of a proxy that begins to serve.
-    pub(crate) fn new() -> WarningWriter {
+    pub fn new() -> WarningWriter {
         WarningWriter {
             is_whole: AtomicBool::new(false),
         }
     }
 
     /// Says that all that will be written waits in this queue, and wakes who writes it.
-    pub(crate) fn end(&self, queue: &JournalQueue) {
+    pub fn end(&self, queue: &JournalQueue) {
         self.is_whole.store(true, Ordering::SeqCst);
         queue.wake();
     }
@@ -57,7 +57,7 @@ impl WarningWriter {
     }
 
     /// Writes the warnings of a service as they come, until all that will be written waits.
-    pub(crate) fn write<R: Wait + Eprint>(&self, rt: &R, service: &Service) {
+    pub fn write<R: Wait + Eprint>(&self, rt: &R, service: &Service) {
         let queue = &service.users().warnings;
         for _ in rt.forever() {
             let is_whole = self.is_whole.load(Ordering::SeqCst);

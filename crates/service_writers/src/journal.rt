@@ -15,7 +15,7 @@ const REST: u64 = 20;
 
 /// Who writes the journal: its file, if there is a journal, and whether all that will be written to it waits.
 #[derive(Drop)]
-pub(crate) struct JournalWriter {
+pub struct JournalWriter {
     path: Option<String>,
     is_whole: AtomicBool,
 }
@@ -26,7 +26,7 @@ impl JournalWriter {
     /// # Errors
     ///
     /// Only where the allocator refuses.
-    pub(crate) fn new(alloc: Global, path: Option<&str>) -> Result<JournalWriter, AllocError> {
+    pub fn new(alloc: Global, path: Option<&str>) -> Result<JournalWriter, AllocError> {
         let path = match path {
             Some(path) => Some(String::from_str(alloc, path)?),
             None => None,
@@ -43,7 +43,7 @@ impl JournalWriter {
     }
 
     /// Says that all that will be written waits in this queue, and wakes who writes it.
-    pub(crate) fn end(&self, queue: &JournalQueue) {
+    pub fn end(&self, queue: &JournalQueue) {
         self.is_whole.store(true, Ordering::SeqCst);
         queue.wake();
     }
@@ -79,7 +79,7 @@ impl JournalWriter {
     }
 
     /// Writes the blocks of a service as they come, until the journal is whole, if there is one.
-    pub(crate) fn write<R: Wait + ProxyFiles + Clock>(&self, rt: &R, service: &Service) {
+    pub fn write<R: Wait + ProxyFiles + Clock>(&self, rt: &R, service: &Service) {
         let Some(path) = &self.path else {
             return;
         };
