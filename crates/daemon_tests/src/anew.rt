@@ -12,6 +12,7 @@ const ALL: Served = Served {
     own_port: true,
     most_calls: 2,
     has_journal: true,
+    has_store: false,
 };
 
 /// Bob has another telephone, and carol has none.

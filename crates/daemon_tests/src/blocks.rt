@@ -128,6 +128,7 @@ fn a_configuration_is_checked(rt: HostRuntime) {
         users: None,
         control: "forkproxyd_test_unused",
         journal: None,
+        store: None,
         most_calls: Some(1),
         most_bindings: 1_000,
         workers: 1,

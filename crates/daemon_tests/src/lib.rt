@@ -1,5 +1,6 @@
 //! Tests of the public calls of `proxy_service` and `service_threads`. What a service does is played without sockets, by tables of
-//! moments (`played`), and refused memory (`refused`); what its sockets, threads and files add, by whole proxies (`living`, `wired`, `limited`, `ordering`, `registered`).
+//! moments (`played`), and refused memory (`refused`, `waiting`); what its sockets, threads and files add, by whole proxies (`living`, `wired`, `limited`, `ordering`, `registered`,
+//! `telephones`, `kept`).
 #![tactic(auto)]
 
 #[cfg(test)]
@@ -8,6 +9,8 @@ mod agents;
 mod anew;
 #[cfg(test)]
 mod answering;
+#[cfg(test)]
+mod asking;
 #[cfg(test)]
 mod blocks;
 #[cfg(test)]
@@ -20,6 +23,8 @@ mod forgetting;
 mod full;
 #[cfg(test)]
 mod holds;
+#[cfg(test)]
+mod kept;
 #[cfg(test)]
 mod limited;
 #[cfg(test)]
@@ -41,10 +46,14 @@ mod registered;
 #[cfg(test)]
 mod ringing;
 #[cfg(test)]
+mod telephones;
+#[cfg(test)]
 mod telling;
 #[cfg(test)]
 mod texts;
 #[cfg(test)]
 mod told;
+#[cfg(test)]
+mod waiting;
 #[cfg(test)]
 mod wired;

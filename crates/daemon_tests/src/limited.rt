@@ -94,6 +94,7 @@ const OPTIONS: Options<'static> = Options {
     users: None,
     control: CONTROL,
     journal: None,
+    store: None,
     most_calls: Some(100),
     most_bindings: 1_000,
     workers: 2,

@@ -26,6 +26,7 @@ const OPTIONS: Options<'static> = Options {
     users: None,
     control: CONTROL,
     journal: None,
+    store: None,
     most_calls: Some(1_000),
     most_bindings: 1_000,
     workers: 4,

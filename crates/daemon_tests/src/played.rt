@@ -77,6 +77,8 @@ pub struct Served {
     pub own_port: bool,
     pub most_calls: u64,
     pub has_journal: bool,
+    /// Whether bindings are kept elsewhere, too.
+    pub has_store: bool,
 }
 
 /// With a journal, and without what an option asks for.
@@ -85,6 +87,7 @@ pub const PLAIN: Served = Served {
     own_port: false,
     most_calls: 1_000,
     has_journal: true,
+    has_store: false,
 };
 
 /// The number of its run.
@@ -109,6 +112,7 @@ pub fn service_over<A: Allocator + Copy>(
         most_calls: served.most_calls,
         most_bindings: 1_000,
         has_journal: served.has_journal,
+        has_store: served.has_store,
         began: 1_700_000_000_000,
         secret: [7; 32],
     };

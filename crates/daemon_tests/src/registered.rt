@@ -1,19 +1,17 @@
 //! A telephone registers and is called by the sockets of a whole proxy, and strangers are refused (RFC 3261 sections 10, 16 and 22).
-use crate::agents::{answer_to, heard};
+use crate::asking::{Agent, Asked, value_in};
 use crate::holds::holds;
 use crate::telling::{counts, has_line, tells, told};
-use crate::texts::behind;
 use service_files::{DaemonFault, Options};
 use service_threads::serve;
 use sip_digest::md5_response;
-use sip_lex::cut_at;
-use std::alloc::{AllocError, Global};
+use std::alloc::Global;
 use std::fs;
 use std::fs::Files;
-use std::net::{Ipv4Addr, Net, SocketAddr, SocketAddrV4, UdpSocket};
+use std::net::Net;
 use std::test::Fail;
 use std::thread::join;
-use std::time::{Clock, Duration};
+use std::time::Clock;
 
 /// Where the proxy listens, the caller at its address, and bob's telephone at another one.
 const PROXY: u16 = 47_480;
@@ -31,18 +29,19 @@ const CONTROL: &str = "forkproxyd_test_registered_control";
 
 /// The own address is trusted, and no other one of this machine.
 const CONFIGURATION: &[u8] =
-    b"own 127.0.0.1 47480\ndomain example.com\nrealm example.com\ntrust 10.0.0.0/8\n";
+    b"own 127.0.0.1 47480\ndomain example.com\nrealm example.com\ntrust 10.0.0.0/8\ngateway 1000 sip:127.0.0.9:47483\n";
 
 /// The MD5 of `bob:example.com:secret`.
 const HASH: &[u8] = b"2664cba6663a734ef3a6fefc0c0d0821";
 
-const LIST: &[u8] = b"bob 2664cba6663a734ef3a6fefc0c0d0821 -\n";
+pub const LIST: &[u8] = b"bob 2664cba6663a734ef3a6fefc0c0d0821 -\n";
 
 const OPTIONS: Options<'static> = Options {
     config: CONFIG,
     users: Some(USERS),
     control: CONTROL,
     journal: None,
+    store: None,
     most_calls: Some(8),
     most_bindings: 1_000,
     workers: 2,
@@ -52,95 +51,6 @@ const OPTIONS: Options<'static> = Options {
     metrics: None,
 };
 
-/// A request: its Call-ID, which is also its branch with its number, and what else stands in it.
-#[derive(Clone, Copy)]
-struct Asked<'a> {
-    method: &'a str,
-    uri: &'a str,
-    from: &'a str,
-    /// The value of its To.
-    to: &'a str,
-    call: &'a str,
-    cseq: u32,
-    lines: &'a str,
-}
-
-/// A telephone or a caller, with the last byte of its address and its port.
-#[derive(Drop)]
-struct Agent {
-    alloc: Global,
-    host: u8,
-    port: u16,
-    socket: UdpSocket,
-}
-
-fn at(host: u8, port: u16) -> SocketAddr {
-    SocketAddr::V4(SocketAddrV4::new(Ipv4Addr::new(127, 0, 0, host), port))
-}
-
-impl Agent {
-    fn new<R: Net>(rt: &R, alloc: Global, host: u8, port: u16) -> Option<Agent> {
-        let socket = UdpSocket::bind(rt, at(host, port)).ok()?;
-        socket
-            .set_read_timeout(Some(Duration::from_millis(100)))
-            .ok()?;
-        Some(Agent {
-            alloc,
-            host,
-            port,
-            socket,
-        })
-    }
-
-    /// The text of a request.
-    fn text(&self, asked: Asked<'_>) -> Result<String, AllocError> {
-        let Asked {
-            method,
-            uri,
-            from,
-            to,
-            call,
-            cseq,
-            lines,
-        } = asked;
-        let Agent { host, port, .. } = self;
-        format!(in self.alloc;
-            "{method} {uri} SIP/2.0\r\nVia: SIP/2.0/UDP 127.0.0.{host}:{port};branch=z9hG4bK{call}{cseq}\r\nMax-Forwards: 70\r\nFrom: <{from}>;tag=1\r\nTo: {to}\r\nCall-ID: {call}\r\nCSeq: {cseq} {method}\r\n{lines}Content-Length: 0\r\n\r\n"
-        )
-    }
-
-    /// Sends a request to the proxy.
-    fn asks(&self, asked: Asked<'_>) {
-        if let Ok(text) = self.text(asked) {
-            let _ = self.socket.send_to(text.as_bytes(), at(1, PROXY));
-        }
-    }
-
-    /// The datagram of a call that comes and begins so.
-    fn hears(&self, front: &str, call: &str) -> Option<Vec<u8>> {
-        heard(self.alloc, &self.socket, front, call)
-    }
-
-    /// Whether a request is answered so.
-    fn is_answered(&self, asked: Asked<'_>, front: &str) -> bool {
-        self.asks(asked);
-        self.hears(front, asked.call).is_some()
-    }
-
-    /// Answers a request with this status line.
-    fn answers(&self, request: &[u8], line: &str) {
-        if let Some(answer) = answer_to(self.alloc, line.as_bytes(), request) {
-            let _ = self.socket.send_to(answer.as_slice(), at(1, PROXY));
-        }
-    }
-}
-
-/// What stands behind a text in another one, up to this byte.
-fn value_in(alloc: Global, text: &[u8], front: &[u8], end: u8) -> Option<String> {
-    let (value, _) = cut_at(behind(text, front)?, end);
-    String::from_utf8(Vec::from_slice(alloc, value).ok()?).ok()
-}
-
 /// A REGISTER of bob, whose telephone knows itself by a private address.
 const REGISTER: Asked<'static> = Asked {
     method: "REGISTER",
@@ -149,6 +59,7 @@ const REGISTER: Asked<'static> = Asked {
     to: "<sip:bob@example.com>",
     call: "r1",
     cseq: 1,
+    branch: "",
     lines: "Contact: <sip:bob@10.0.0.2:5070>;expires=600\r\n",
 };
 
@@ -170,10 +81,10 @@ fn lines_for(alloc: Global, challenge: &[u8]) -> Option<String> {
     ).ok()
 }
 
-/// Whether bob's telephone is bound, with these lines, for as long as it asks.
-fn is_bound(telephone: &Agent, lines: &str) -> bool {
+/// Whether bob's telephone is bound by its REGISTER of this number, with these lines, for as long as it asks.
+pub fn is_bound(telephone: &Agent, cseq: u32, lines: &str) -> bool {
     telephone.asks(Asked {
-        cseq: 2,
+        cseq,
         lines,
         ..REGISTER
     });
@@ -186,14 +97,17 @@ fn is_bound(telephone: &Agent, lines: &str) -> bool {
     }
 }
 
+/// The lines of a REGISTER of bob's telephone, with his password, once it is asked for it.
+pub fn lines_asked(telephone: &Agent) -> Option<String> {
+    telephone.asks(REGISTER);
+    let challenge = telephone.hears("SIP/2.0 401 ", "r1")?;
+    lines_for(telephone.alloc, challenge.as_slice())
+}
+
 /// Whether bob's telephone is asked for a password, and is bound with it.
 fn registers(telephone: &Agent) -> bool {
-    telephone.asks(REGISTER);
-    let Some(challenge) = telephone.hears("SIP/2.0 401 ", "r1") else {
-        return false;
-    };
-    match lines_for(telephone.alloc, challenge.as_slice()) {
-        Some(lines) => is_bound(telephone, lines.as_str()),
+    match lines_asked(telephone) {
+        Some(lines) => is_bound(telephone, 2, lines.as_str()),
         None => false,
     }
 }
@@ -206,11 +120,12 @@ const INVITE: Asked<'static> = Asked {
     to: "<sip:bob@example.com>",
     call: "c1",
     cseq: 1,
+    branch: "",
     lines: "Contact: <sip:alice@127.0.0.1:47481>\r\n",
 };
 
 /// The INVITE of a call as it comes to the telephone, once the caller has heard that the telephone answers.
-fn called(caller: &Agent, telephone: &Agent) -> Option<Vec<u8>> {
+pub fn called(caller: &Agent, telephone: &Agent) -> Option<Vec<u8>> {
     caller.asks(INVITE);
     let invite = telephone.hears("INVITE sip:bob@10.0.0.2:5070 SIP/2.0\r\n", "c1")?;
     telephone.answers(invite.as_slice(), "SIP/2.0 200 OK\r\n");
@@ -243,7 +158,8 @@ fn route_line(alloc: Global, invite: &[u8]) -> Option<String> {
     format!(in alloc; "Route: {route}\r\n").ok()
 }
 
-/// Whether a BYE of the telephone comes to the caller by the token of its dialog, and one of another dialog is refused.
+/// Whether a BYE of the telephone comes to the caller by the token of its dialog, one of another dialog and one without a token are refused,
+/// and none goes by a gateway.
 fn ends(caller: &Agent, telephone: &Agent, line: &str) -> bool {
     let bye = Asked {
         method: "BYE",
@@ -252,13 +168,28 @@ fn ends(caller: &Agent, telephone: &Agent, line: &str) -> bool {
         to: "<sip:alice@elsewhere.example>;tag=1",
         call: "c1",
         cseq: 7,
+        branch: "",
         lines: line,
     };
     telephone.asks(bye);
-    caller
+    let is_ended = caller
         .hears("BYE sip:alice@127.0.0.1:47481 ", "c1")
-        .is_some()
-        && telephone.is_answered(Asked { call: "c3", ..bye }, "SIP/2.0 403 ")
+        .is_some();
+    let of_another = Asked { call: "c3", ..bye };
+    let without = Asked {
+        cseq: 8,
+        lines: "Route: <sip:127.0.0.1:47480;lr>\r\n",
+        ..bye
+    };
+    let abroad = Asked {
+        cseq: 9,
+        uri: "sip:+1555@example.com",
+        ..bye
+    };
+    is_ended
+        && telephone.is_answered(of_another, "SIP/2.0 403 ")
+        && telephone.is_answered(without, "SIP/2.0 403 ")
+        && telephone.is_answered(abroad, "SIP/2.0 480 ")
 }
 
 /// A call to the telephone, which ends it; says what did not hold.
@@ -329,8 +260,8 @@ fn shows<R: Net + Clock>(rt: &R, caller: &Agent, telephone: &Agent) -> &'static 
 /// Plays all, and says what did not hold.
 fn played<R: Net + Clock>(rt: &R, alloc: Global) -> &'static str {
     let (Some(caller), Some(telephone)) = (
-        Agent::new(rt, alloc, 1, CALLER),
-        Agent::new(rt, alloc, 2, TELEPHONE),
+        Agent::new(rt, alloc, 1, CALLER, PROXY),
+        Agent::new(rt, alloc, 2, TELEPHONE, PROXY),
     ) else {
         return "there are two agents";
     };

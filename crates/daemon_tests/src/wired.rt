@@ -34,6 +34,7 @@ const OPTIONS: Options<'static> = Options {
     users: None,
     control: CONTROL,
     journal: Some(JOURNAL),
+    store: None,
     most_calls: Some(8),
     most_bindings: 1_000,
     workers: 2,

@@ -8,7 +8,7 @@ use std::alloc::Global;
 use std::sync::Wait;
 use std::time::Clock;
 
-const REALM: &[u8] =
+pub const REALM: &[u8] =
     b"own 192.0.2.9 5060\ninstance 7\ndomain example.com\nrealm example.com\ntrust 192.0.2.128/25\ngateway 1000 sip:192.0.2.20\n";
 
 /// The same, where strangers may call the users of the domain.
@@ -16,29 +16,29 @@ const OPEN: &[u8] =
     b"own 192.0.2.9 5060\ninstance 7\ndomain example.com\nrealm example.com\nstrangers\ntrust 192.0.2.128/25\ngateway 1000 sip:192.0.2.20\n";
 
 /// Who has a password, by MD5.
-const USERS: &[u8] =
+pub const USERS: &[u8] =
     b"bob 2664cba6663a734ef3a6fefc0c0d0821 -\nalice 2ea68a710b96a2d11cb42c2b3758287a -\n";
 
 /// Where bob's telephone is behind a translated address, another one of his, one that is trusted, a gateway, and a stranger.
-const AWAY: Hop = Hop {
+pub const AWAY: Hop = Hop {
     addr: [198, 51, 100, 7],
     port: 41_000,
     transport: Transport::Udp,
 };
 
-const ELSEWHERE: Hop = Hop {
+pub const ELSEWHERE: Hop = Hop {
     addr: [203, 0, 113, 5],
     port: 5060,
     transport: Transport::Udp,
 };
 
-const INSIDE: Hop = Hop {
+pub const INSIDE: Hop = Hop {
     addr: [192, 0, 2, 130],
     port: 5060,
     transport: Transport::Udp,
 };
 
-const GATEWAY: Hop = Hop {
+pub const GATEWAY: Hop = Hop {
     addr: [192, 0, 2, 20],
     port: 5060,
     transport: Transport::Udp,
@@ -49,7 +49,7 @@ const BOB_URI: &str = "sip:bob@example.com";
 const BOB_TO: &str = "<sip:bob@example.com>";
 
 /// A REGISTER of bob with the contact of his telephone.
-const REGISTER: Asked = Asked {
+pub const REGISTER: Asked = Asked {
     at: 0,
     source: AWAY,
     method: "REGISTER",
@@ -63,7 +63,7 @@ const REGISTER: Asked = Asked {
 };
 
 /// An INVITE for bob from one who is trusted.
-const INVITE: Asked = Asked {
+pub const INVITE: Asked = Asked {
     at: 1_000,
     source: INSIDE,
     method: "INVITE",
@@ -395,7 +395,7 @@ fn wrong_credentials_are_told(rt: HostRuntime) {
 // ---- room for bindings
 
 /// A REGISTER of alice, who is inside.
-const ALICES: Asked = Asked {
+pub const ALICES: Asked = Asked {
     at: 30_000,
     source: INSIDE,
     from: "sip:alice@example.com",

@@ -5,6 +5,8 @@
 #[cfg(test)]
 mod credentials;
 #[cfg(test)]
+mod gateways;
+#[cfg(test)]
 mod histories;
 #[cfg(test)]
 mod holds;
@@ -12,6 +14,10 @@ mod holds;
 mod outgoing;
 #[cfg(test)]
 mod plain;
+#[cfg(test)]
+mod rows;
+#[cfg(test)]
+mod storing;
 #[cfg(test)]
 mod told;
 #[cfg(test)]

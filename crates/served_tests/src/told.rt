@@ -168,7 +168,11 @@ fn all_refused<R: Wait>(rt: &R, alloc: Global, service: &Service, now: u64) -> O
 /// What is told once a user is forgotten.
 fn forgotten<R: Wait>(rt: &R, alloc: Global, service: &Service, user: &[u8]) -> Option<Vec<u8>> {
     let mut text = Vec::new(alloc);
-    match service.users().registry.forget_user(rt, user, &mut text) {
+    match service
+        .users()
+        .registry
+        .forget_user(rt, alloc, None, user, &mut text)
+    {
         Ok(()) => Some(text),
         Err(AllocError) => None,
     }

@@ -91,12 +91,14 @@ fn is_sent(sent: &Sent, goes: &Goes) -> bool {
         && !has_part(text, "Proxy-Authorization")
 }
 
-/// A service that has begun to serve by this configuration, with these users, if it has a realm, and with room for so many bindings.
-pub fn service_of(
+/// A service that has begun to serve by this configuration, with these users, if it has a realm, and with room for so many bindings, which
+/// are kept elsewhere, too, or are not.
+fn begun(
     alloc: Global,
     text: &[u8],
     users: Option<&[u8]>,
     most_bindings: u32,
+    has_store: bool,
 ) -> Option<Service> {
     let configuration = read_text(alloc, text, users, 1).ok()?;
     let terms = RunSettings {
@@ -107,10 +109,64 @@ pub fn service_of(
         most_calls: 100,
         most_bindings,
         has_journal: false,
+        has_store,
         began: u64::from(BEGAN) * 1_000,
         secret: SECRET,
     };
     Service::new(alloc, alloc, configuration, terms).ok()
+}
+
+/// One whose bindings live as long as it runs.
+pub fn service_of(
+    alloc: Global,
+    text: &[u8],
+    users: Option<&[u8]>,
+    most_bindings: u32,
+) -> Option<Service> {
+    begun(alloc, text, users, most_bindings, false)
+}
+
+/// One whose bindings are kept elsewhere, too.
+pub fn storing_service_of(alloc: Global, text: &[u8], users: Option<&[u8]>) -> Option<Service> {
+    begun(alloc, text, users, 100, true)
+}
+
+/// What goes out as a request comes.
+pub fn sent_for<R: Wait + Clock>(
+    rt: &R,
+    alloc: Global,
+    service: &Service,
+    asked: &Asked,
+) -> Option<Outgoing> {
+    let Ok(text) = text_of(alloc, asked) else {
+        return None;
+    };
+    let mut port = Outgoing::new(alloc);
+    let received = Received {
+        bytes: text.as_bytes(),
+        source: asked.source,
+        now: asked.at,
+    };
+    service.take(rt, &mut port, received);
+    Some(port)
+}
+
+/// How many datagrams go out as a request comes.
+pub fn takes<R: Wait + Clock>(
+    rt: &R,
+    alloc: Global,
+    service: &Service,
+    asked: &Asked,
+) -> Option<usize> {
+    match sent_for(rt, alloc, service, asked) {
+        Some(port) => Some(port.sent().len()),
+        None => None,
+    }
+}
+
+/// Whether this went out, without credentials.
+pub fn sends(port: &Outgoing, goes: &Goes) -> bool {
+    port.sent().iter().any(|sent| is_sent(sent, goes))
 }
 
 /// Whether what comes is followed by what goes out.
@@ -121,17 +177,10 @@ fn follows<R: Wait + Clock>(
     asked: &Asked,
     goes: &Goes,
 ) -> bool {
-    let Ok(text) = text_of(alloc, asked) else {
-        return false;
-    };
-    let mut port = Outgoing::new(alloc);
-    let received = Received {
-        bytes: text.as_bytes(),
-        source: asked.source,
-        now: asked.at,
-    };
-    service.take(rt, &mut port, received);
-    port.sent().iter().any(|sent| is_sent(sent, goes))
+    match sent_for(rt, alloc, service, asked) {
+        Some(port) => sends(&port, goes),
+        None => false,
+    }
 }
 
 /// Which of the turns is not followed by what goes out, if one is not.

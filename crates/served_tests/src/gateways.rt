@@ -1,0 +1,248 @@
+//! Requests within dialogs by their tokens, and calls by gateways (RFC 3261 sections 16.5 and 16.6).
+use crate::histories::{AWAY, GATEWAY, INSIDE, INVITE, REGISTER};
+use crate::holds::holds;
+use crate::outgoing::{Outgoing, Sent};
+use crate::rows::USERS;
+use crate::turns::{Asked, Goes, missed, sends, sent_for, service_of};
+use proxy_dispatch::Received;
+use proxy_service::Service;
+use sip_lex::cut_at;
+use sip_uri::{Hop, Transport};
+use std::alloc::Global;
+use std::sync::Wait;
+use std::time::Clock;
+
+const REALM: &[u8] =
+    b"own 192.0.2.9 5060\ninstance 7\ndomain example.com\nrealm example.com SHA-256,MD5\ntrust 192.0.2.128/25\ngateway 1000 sip:192.0.2.20\ngateway 500 sip:192.0.2.21\n";
+
+const SECOND: Hop = Hop {
+    addr: [192, 0, 2, 21],
+    port: 5060,
+    transport: Transport::Udp,
+};
+
+// ---- within a dialog
+
+/// The end of a dialog that a stranger sends to one who is trusted, by the token of its Call-ID.
+const BYE: Asked = Asked {
+    at: 0,
+    source: AWAY,
+    method: "BYE",
+    uri: "sip:carol@192.0.2.130:5060",
+    from: "sip:eve@elsewhere.example",
+    to: "<sip:carol@elsewhere.example>;tag=2",
+    call: "b1",
+    cseq: 7,
+    lines: "Route: <sip:192.0.2.9:5060;lr;d=692a9b804d520b24ed3eb2e5>\r\n",
+    password: None,
+};
+
+const GOES: Goes = Goes {
+    to: INSIDE,
+    front: "BYE sip:carol@192.0.2.130:5060 SIP/2.0\r\n",
+    part: "",
+};
+
+const FORBIDDEN: Goes = Goes {
+    to: AWAY,
+    front: "SIP/2.0 403 ",
+    part: "",
+};
+
+/// The token has to be that of the Call-ID, and less than a day old; it opens no call, and reaches no gateway.
+const TOKENS: &[(Asked, Goes)] = &[
+    (BYE, GOES),
+    // of a second that is 86,399 and 86,400 seconds ago
+    (
+        Asked {
+            call: "b2",
+            lines: "Route: <sip:192.0.2.9:5060;lr;d=69294a01f8482eef6475c384>\r\n",
+            ..BYE
+        },
+        GOES,
+    ),
+    (
+        Asked {
+            call: "b3",
+            lines: "Route: <sip:192.0.2.9:5060;lr;d=69294a00abbac4b00c5576ad>\r\n",
+            ..BYE
+        },
+        FORBIDDEN,
+    ),
+    (Asked { call: "b4", ..BYE }, FORBIDDEN),
+    (
+        Asked {
+            cseq: 8,
+            lines: "Route: <sip:192.0.2.9:5060;lr>\r\n",
+            ..BYE
+        },
+        FORBIDDEN,
+    ),
+    (
+        Asked {
+            cseq: 9,
+            lines: "",
+            ..BYE
+        },
+        FORBIDDEN,
+    ),
+    (
+        Asked {
+            cseq: 10,
+            to: "<sip:carol@elsewhere.example>",
+            ..BYE
+        },
+        FORBIDDEN,
+    ),
+    (
+        Asked {
+            cseq: 11,
+            uri: "sip:+1555@example.com",
+            ..BYE
+        },
+        Goes {
+            to: AWAY,
+            front: "SIP/2.0 480 ",
+            part: "",
+        },
+    ),
+];
+
+/// Each table stands in a function of its own: a proof reads a constant wherever it is named, once for each call beside it.
+fn tokens() -> &'static [(Asked, Goes)] {
+    TOKENS
+}
+
+#[test]
+fn a_token_is_good_within_its_dialog(rt: HostRuntime) {
+    let well = match service_of(rt.alloc(), REALM, Some(USERS), 100) {
+        Some(service) => missed(&rt, rt.alloc(), &service, tokens()).is_none(),
+        None => false,
+    };
+    holds(&rt, well, "tokens of dialogs");
+}
+
+// ---- to the world
+
+/// A call of one who is trusted to a number of the world.
+const ABROAD: Asked = Asked {
+    uri: "sip:+15550100@example.com",
+    to: "<sip:+15550100@example.com>",
+    call: "g1",
+    ..INVITE
+};
+
+/// What a gateway may not do.
+const TURNED_AWAY: &[(Asked, Goes)] = &[
+    (
+        Asked {
+            source: GATEWAY,
+            call: "g2",
+            ..ABROAD
+        },
+        Goes {
+            to: GATEWAY,
+            front: "SIP/2.0 480 ",
+            part: "",
+        },
+    ),
+    (
+        Asked {
+            source: GATEWAY,
+            ..REGISTER
+        },
+        Goes {
+            to: GATEWAY,
+            front: "SIP/2.0 401 ",
+            part: "",
+        },
+    ),
+];
+
+fn turned_away() -> &'static [(Asked, Goes)] {
+    TURNED_AWAY
+}
+
+/// The first that went out to there.
+fn first_to(port: &Outgoing, to: Hop) -> Option<&Sent> {
+    port.sent().iter().find(|sent| sent.to == to)
+}
+
+/// The answer to a request with this status line.
+fn answer_to(alloc: Global, line: &[u8], request: &[u8]) -> Option<Vec<u8>> {
+    let (_, fields) = cut_at(request, b'\n');
+    let mut answer = Vec::from_slice(alloc, line).ok()?;
+    answer.extend_from_slice(fields?).ok()?;
+    Some(answer)
+}
+
+/// Whether this goes out as the first gateway refuses its INVITE.
+fn goes_behind<R: Wait + Clock>(
+    rt: &R,
+    alloc: Global,
+    service: &Service,
+    invite: &[u8],
+    goes: &Goes,
+) -> bool {
+    let Some(answer) = answer_to(alloc, b"SIP/2.0 503 Service Unavailable\r\n", invite) else {
+        return false;
+    };
+    let mut port = Outgoing::new(alloc);
+    let received = Received {
+        bytes: &answer,
+        source: GATEWAY,
+        now: 1_500,
+    };
+    service.take(rt, &mut port, received);
+    sends(&port, goes)
+}
+
+/// What goes out by the first gateway, and then by the second one.
+const FIRST: Goes = Goes {
+    to: GATEWAY,
+    front: "INVITE sip:+15550100@192.0.2.20 SIP/2.0\r\n",
+    part: "",
+};
+
+const THEN: Goes = Goes {
+    to: SECOND,
+    front: "INVITE sip:+15550100@192.0.2.21 SIP/2.0\r\n",
+    part: "",
+};
+
+/// Whether a call goes by the first gateway alone, and by the second one once the first one has refused.
+fn goes_by_the_next<R: Wait + Clock>(
+    rt: &R,
+    alloc: Global,
+    service: &Service,
+    called: &Outgoing,
+) -> bool {
+    match first_to(called, GATEWAY) {
+        Some(invite) => {
+            sends(called, &FIRST)
+                && first_to(called, SECOND).is_none()
+                && goes_behind(rt, alloc, service, &invite.bytes, &THEN)
+        }
+        None => false,
+    }
+}
+
+/// Whether a call goes so by a service, and none of a gateway does.
+fn goes_abroad<R: Wait + Clock>(rt: &R, alloc: Global, service: &Service) -> bool {
+    match sent_for(rt, alloc, service, &ABROAD) {
+        Some(called) => {
+            goes_by_the_next(rt, alloc, service, &called)
+                && missed(rt, alloc, service, turned_away()).is_none()
+        }
+        None => false,
+    }
+}
+
+#[test]
+fn the_next_gateway_is_called(rt: HostRuntime) {
+    let well = match service_of(rt.alloc(), REALM, Some(USERS), 100) {
+        Some(service) => goes_abroad(&rt, rt.alloc(), &service),
+        None => false,
+    };
+    holds(&rt, well, "two gateways");
+}
