@@ -84,6 +84,8 @@ pub struct SenderCounts {
     pub refused: Count,
     /// Credentials that were wrong, or another user's.
     pub wrong_credentials: Count,
+    /// Changes of bindings that a store refused to keep: nothing was changed.
+    pub unkept: Count,
 }
 
 impl SenderCounts {
@@ -93,6 +95,7 @@ impl SenderCounts {
             challenged: Count::new(),
             refused: Count::new(),
             wrong_credentials: Count::new(),
+            unkept: Count::new(),
         }
     }
 
@@ -112,6 +115,7 @@ impl SenderCounts {
                 b"forkproxy_wrong_credentials_total",
                 &self.wrong_credentials,
             ),
+            counter(b"forkproxy_unkept_total", &self.unkept),
         ];
         append_metrics(text, &metrics)?;
         self.registrations.append(text)

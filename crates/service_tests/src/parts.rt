@@ -263,6 +263,7 @@ fn what_is_counted_is_written(rt: HostRuntime) {
     counts.datagrams.timed.requests.add(8);
     counts.latencies.add(200);
     counts.commits.add(700);
+    counts.senders.unkept.add(2);
     let lines = [
         "# TYPE forkproxy_uptime_seconds gauge\nforkproxy_uptime_seconds 3\n",
         "\nforkproxy_calls 2\n",
@@ -277,6 +278,7 @@ fn what_is_counted_is_written(rt: HostRuntime) {
         "\nforkproxy_answered_total{status=\"other\"} 1\n",
         "\nforkproxy_timer_sent_total{message=\"request\"} 8\n",
         "forkproxy_handling_micros_sum 200\nforkproxy_handling_micros_count 1\n",
+        "\nforkproxy_unkept_total 2\n",
         "\nforkproxy_store_micros_sum 700\nforkproxy_store_micros_count 1\n",
     ];
     let found = lines_in(rt.alloc(), &counts, &lines);

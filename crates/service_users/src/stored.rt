@@ -112,8 +112,9 @@ impl ServiceUsers<Global> {
         hearing.counts.senders.registrations.add(status);
     }
 
-    /// Lets a line be written of changes that were not kept.
-    fn warn_of_unkept<R: Wait>(&self, rt: &R, count: usize, fault: KeepFault) {
+    /// Counts changes that were not kept, and lets a line be written of them.
+    fn note_unkept<R: Wait>(&self, rt: &R, counts: &Counts, count: usize, fault: KeepFault) {
+        counts.senders.unkept.add(count as u64);
         if let Ok(line) = unkept_line(self.heap, count, fault) {
             let _ = self.warnings.push(rt, line.as_bytes());
         }
@@ -134,7 +135,7 @@ impl ServiceUsers<Global> {
         }
         let stored = store_all(self.heap, keeper, &batch);
         if let Err(fault) = stored {
-            self.warn_of_unkept(rt, batch.len(), fault);
+            self.note_unkept(rt, hearing.counts, batch.len(), fault);
         }
         let is_kept = stored.is_ok();
         for pending in batch {
