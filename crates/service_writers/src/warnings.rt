@@ -44,11 +44,14 @@ impl WarningWriter {
         queue.wake();
     }
 
-    /// Writes lines, each where there is room for it.
+    /// Writes lines, up to the first for which there is no room in time: those behind it are left out, so that the end waits once.
     fn write_lines<R: Eprint>(&self, rt: &R, text: &[u8]) {
         for line in text.split(|byte| *byte == b'\n') {
-            if line.is_empty() || !can_warn() {
+            if line.is_empty() {
                 continue;
+            }
+            if !can_warn() {
+                return;
             }
             if let Ok(line) = str::from_utf8(line) {
                 let _ = rt.eprintln(line);
