@@ -93,28 +93,28 @@ fn plays<R: Net + Clock>(rt: &R, alloc: Global, given: Option<&str>) -> Option<S
     lines
 }
 
-/// What comes of a turn that is played by a proxy of its own, which ends in good order.
-fn turn(rt: &HostRuntime, given: Option<&str>) -> Option<String> {
-    let alloc = rt.alloc();
-    let (served, lines) = join(rt, || serve(rt, alloc, OPTIONS), || plays(rt, alloc, given));
-    let ended: Result<(), DaemonFault> = served;
-    if ended.is_ok() { lines } else { None }
-}
-
-/// Whether a telephone that registers is called by the next proxy, which takes a nonce of the one before.
-fn is_kept(rt: &HostRuntime) -> bool {
-    match turn(rt, None) {
-        Some(lines) => turn(rt, Some(lines.as_str())).is_some(),
-        None => false,
-    }
-}
-
 #[test]
 fn a_telephone_is_called_by_the_proxy_behind(rt: HostRuntime) -> Result<(), Fail> {
+    let alloc = rt.alloc();
     let written = fs::write(&rt, CONFIG, CONFIGURATION).is_ok()
         && fs::write(&rt, USERS, LIST).is_ok();
     holds(&rt, written, "the files are written");
-    holds(&rt, is_kept(&rt), "what is bound survives a proxy");
+    let (served, lines) = join(
+        &rt,
+        || serve(&rt, alloc, OPTIONS),
+        || plays(&rt, alloc, None),
+    );
+    let ended: Result<(), DaemonFault> = served;
+    let given = lines.as_deref();
+    holds(&rt, given.is_some(), "a telephone registers");
+    let (behind, called) = join(
+        &rt,
+        || serve(&rt, alloc, OPTIONS),
+        || plays(&rt, alloc, given),
+    );
+    let all_ended = ended.is_ok() && behind.is_ok();
+    holds(&rt, called.is_some(), "it is called, and its nonce taken");
+    holds(&rt, all_ended, "both proxies end in good order");
     for file in [CONFIG, USERS, STORE] {
         let _ = fs::remove_file(&rt, file);
     }
