@@ -5,7 +5,7 @@ use crate::users::ServiceUsers;
 use binding_table::{Change, KeepFault, Keeper, KeptUser, PreparedChange};
 use bindings::UserBindings;
 use call_table::Schedule;
-use fork_call::Port;
+use fork_call::{Datagram, Port};
 use metrics::Counts;
 use std::alloc::{AllocError, Global};
 use std::sync::Wait;
@@ -50,6 +50,13 @@ impl Registry<Global> {
         self.note_use();
         self.bindings.insert(rt, &user, bindings)
     }
+}
+
+/// Sends the answer of this status to a REGISTER, and counts it.
+fn send_answer<P: Port>(port: &mut P, counts: &Counts, answer: &Datagram<Global>, status: u16) {
+    let _ = port.send(answer);
+    counts.datagrams.answered.add(status);
+    counts.senders.registrations.add(status);
 }
 
 /// What else of a service hears of a change that is kept: who keeps the time, and the counters.
@@ -102,14 +109,11 @@ impl ServiceUsers<Global> {
         let Some(answers) = answers else {
             return;
         };
-        let (datagram, status) = if is_kept {
-            (&answers.kept, 200)
+        if is_kept {
+            send_answer(port, hearing.counts, &answers.kept, 200);
         } else {
-            (&answers.unkept, 500)
-        };
-        let _ = port.send(datagram);
-        hearing.counts.datagrams.answered.add(status);
-        hearing.counts.senders.registrations.add(status);
+            send_answer(port, hearing.counts, &answers.unkept, 500);
+        }
     }
 
     /// Counts changes that were not kept, and lets a line be written of them.

@@ -23,5 +23,5 @@ registry_sync = struct_sync (shape (registry.the_type heap_row ghosts)) (
 pub users_sync : IsSync (users.the_field heap_row ghosts).row
 users_sync = struct_sync (shape (users.the_type heap_row ghosts)) (
   heap.the_field_sync,
-  (registry_sync, (search (changes.the_field_sync, send, sync), (search (crosses, sendable), (last_refused.the_field_sync, (queue.the_field_sync, tt))))),
+  (registry_sync, (search (changes.the_field_sync, send, sync, frees), (search (crosses, sendable), (last_refused.the_field_sync, (queue.the_field_sync, tt))))),
 )
