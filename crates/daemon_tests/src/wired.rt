@@ -156,7 +156,7 @@ fn counts_what_is_sent<R: Net + Clock>(rt: &R, alloc: Global) -> bool {
     };
     let text = text.as_slice();
     let again = value_in(text, "\nforkproxy_timer_sent_total{message=\"request\"} ");
-    let handled = value_in(text, "\nforkproxy_handling_micros_count ");
+    let handled = value_in(text, "\nforkproxy_handling_seconds_count ");
     has_line(text, "\nforkproxy_sent_total{message=\"ack\"} 2\n")
         && has_line(text, "\nforkproxy_sent_total{message=\"cancel\"} 0\n")
         && has_line(text, "\nforkproxy_timer_sent_total{message=\"ack\"} 0\n")

@@ -1,5 +1,5 @@
 -- Counters, gauges and histograms in the text form that Prometheus reads.
-use Rattle.std.specs.Prelude.{ℕ, ◌+◌, ◌-◌, ◌^◌, min, List, [], ◌∷◌, ◌++◌, codes}
+use Rattle.std.specs.Prelude.{ℕ, ◌+◌, ◌-◌, ◌/◌, ◌%◌, ◌^◌, min, List, [], ◌∷◌, ◌++◌, codes}
 use Rattle.std.specs.List.{flat_map}
 use Rattle.std.specs.Fmt.{decimal}
 use Rattle.metrics.specs.declared.metric.MetricKind.{MetricKind}
@@ -46,14 +46,25 @@ labelled_text name label values = flat_map (labelled_line name label) values
 abbrev pub family_text : Family → List ℕ
 family_text f = type_line f.name.now f.kind ++ labelled_text f.name.now f.label.now f.values.now
 
--- ---- histograms
+-- ---- histograms, of how long something took
 
 -- numbers that 64 bits do not hold are the greatest that they do
 abbrev pub plus : ℕ → ℕ → ℕ
 plus a b = min (a + b) (2 ^ 64 - 1)
 
+-- the last decimal digit of a number
+abbrev pub last_digit : ℕ → ℕ
+last_digit n = 48 + n % 10
+
+-- so many microseconds, in seconds: six digits stand behind the point
+abbrev pub seconds_text : ℕ → List ℕ
+seconds_text micros =
+    decimal (micros / 1000000)
+    ++ (46 ∷ last_digit (micros / 100000) ∷ last_digit (micros / 10000) ∷ last_digit (micros / 1000)
+    ∷ last_digit (micros / 100) ∷ last_digit (micros / 10) ∷ last_digit micros ∷ [])
+
 abbrev pub class_name : List ℕ → ℕ → List ℕ
-class_name name bound = name ++ (codes "_bucket{le=\"" ++ (decimal bound ++ codes "\"}"))
+class_name name bound = name ++ (codes "_bucket{le=\"" ++ (seconds_text bound ++ codes "\"}"))
 
 abbrev pub bucket_line : List ℕ → ℕ → ℕ → List ℕ
 bucket_line name bound total = class_name name bound ++ number_end total
@@ -67,9 +78,12 @@ abbrev pub total_of : ℕ → List HistogramClass → ℕ
 total_of before [] = before
 total_of before (b ∷ bs) = total_of (plus before b.count) bs
 
+abbrev pub sum_line : List ℕ → ℕ → List ℕ
+sum_line name sum = name ++ (codes "_sum " ++ (seconds_text sum ++ 10 ∷ []))
+
 abbrev pub ends_text : List ℕ → ℕ → ℕ → List ℕ
 ends_text name all sum =
-    value_line name (codes "_bucket{le=\"+Inf\"}") all ++ (value_line name (codes "_sum") sum ++ value_line name (codes "_count") all)
+    value_line name (codes "_bucket{le=\"+Inf\"}") all ++ (sum_line name sum ++ value_line name (codes "_count") all)
 
 abbrev pub histogram_text : Histogram → List ℕ
 histogram_text h =

@@ -71,8 +71,8 @@ impl Counts {
         self.datagrams.append(&mut text)?;
         self.senders.append(&mut text)?;
         self.latencies
-            .append(&mut text, b"forkproxy_handling_micros")?;
-        self.commits.append(&mut text, b"forkproxy_store_micros")?;
+            .append(&mut text, b"forkproxy_handling_seconds")?;
+        self.commits.append(&mut text, b"forkproxy_store_seconds")?;
         Ok(text)
     }
 }

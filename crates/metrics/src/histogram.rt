@@ -1,27 +1,27 @@
-//! Values that are counted by classes.
+//! How long something took, counted by classes.
 ghost use Rattle.std.specs.Prelude.{◌≡◌, ◌≤◌, ◌<◌, ◌++◌, ℕ, IfOk, OnOk, length, slice_index};
-ghost use Rattle.metrics.specs.Metrics.{bucket_line, buckets_text, class_name, ends_text, histogram_text, plus, total_of};
+ghost use Rattle.metrics.specs.Metrics.{bucket_line, buckets_text, class_name, ends_text, histogram_text, last_digit, plus, seconds_text, sum_line, total_of};
 
 use crate::metric::{MetricKind, append_number, append_type, append_value};
 use sip_lex::append_decimal;
 use std::alloc::{AllocError, Allocator};
 
-/// A class of values: those that are at most `bound`, and greater than the bound before.
+/// A class of durations: those of at most `bound` microseconds, and longer than the bound before.
 #[derive(Clone, Copy)]
 pub struct HistogramClass {
     pub bound: u64,
     pub count: u64,
 }
 
-/// How often values of each class came.
+/// How often durations of each class came.
 #[derive(Clone, Copy)]
 pub struct Histogram<'a> {
     pub name: &'a [u8],
     /// The classes, by bounds that rise.
     pub buckets: &'a [HistogramClass],
-    /// How many values were greater than the last bound.
+    /// How many were longer than the last bound.
     pub beyond: u64,
-    /// The sum of all values.
+    /// The sum of all, in microseconds.
     pub sum: u64,
 }
 
@@ -40,6 +40,29 @@ pub fn class_of(bounds: &[u64], value: u64) -> usize
     bounds.len()
 }
 
+/// The last decimal digit of a number.
+fn last_digit(n: u64) -> u8
+    ensures { result ≡ last_digit n }
+{
+    b'0' + (n % 10) as u8
+}
+
+/// Appends so many microseconds in seconds, with six digits behind the point.
+fn append_seconds<A: Allocator>(out: &mut Vec<u8, A>, micros: u64) -> Result<(), AllocError>
+    ensures { OnOk result (out.new.items ≡ out.old.items ++ seconds_text micros) }
+{
+    append_decimal(out, micros / 1_000_000)?;
+    out.extend_from_slice(&[
+        b'.',
+        last_digit(micros / 100_000),
+        last_digit(micros / 10_000),
+        last_digit(micros / 1_000),
+        last_digit(micros / 100),
+        last_digit(micros / 10),
+        last_digit(micros),
+    ])
+}
+
 /// Appends the name of a class.
 fn append_class<A: Allocator>(
     out: &mut Vec<u8, A>,
@@ -50,7 +73,7 @@ fn append_class<A: Allocator>(
 {
     out.extend_from_slice(name)?;
     out.extend_from_slice(b"_bucket{le=\"")?;
-    append_decimal(out, bound)?;
+    append_seconds(out, bound)?;
     out.extend_from_slice(b"\"}")?;
     Ok(())
 }
@@ -94,6 +117,17 @@ fn all_of(bounded: u64, beyond: u64) -> u64
     bounded.saturating_add(beyond)
 }
 
+/// Appends the line of the sum.
+fn append_sum<A: Allocator>(out: &mut Vec<u8, A>, name: &[u8], sum: u64) -> Result<(), AllocError>
+    ensures { OnOk result (out.new.items ≡ out.old.items ++ sum_line name.now sum) }
+{
+    out.extend_from_slice(name)?;
+    out.extend_from_slice(b"_sum ")?;
+    append_seconds(out, sum)?;
+    out.push(b'\n')?;
+    Ok(())
+}
+
 /// Appends the lines that end a histogram: how many values there were, with their sum.
 fn append_ends<A: Allocator>(
     out: &mut Vec<u8, A>,
@@ -104,12 +138,12 @@ fn append_ends<A: Allocator>(
     ensures { OnOk result (out.new.items ≡ out.old.items ++ ends_text name.now all sum) }
 {
     append_value(out, name, b"_bucket{le=\"+Inf\"}", all)?;
-    append_value(out, name, b"_sum", sum)?;
+    append_sum(out, name, sum)?;
     append_value(out, name, b"_count", all)?;
     Ok(())
 }
 
-/// Appends a histogram: for each class how many values were at most its bound, then the sum of all values and how many there
+/// Appends a histogram, in seconds: for each class how many durations were at most its bound, then the sum of all and how many there
 /// were. Numbers that 64 bits do not hold are the greatest that they do.
 ///
 /// # Errors

@@ -34,7 +34,7 @@ const BUCKETS: [HistogramClass; 2] = [
 ];
 
 const HISTOGRAM_TEXT: &[u8] =
-    b"# TYPE took histogram\ntook_bucket{le=\"100\"} 3\ntook_bucket{le=\"500\"} 7\ntook_bucket{le=\"+Inf\"} 9\ntook_sum 2000\ntook_count 9\n";
+    b"# TYPE took histogram\ntook_bucket{le=\"0.000100\"} 3\ntook_bucket{le=\"0.000500\"} 7\ntook_bucket{le=\"+Inf\"} 9\ntook_sum 1234567.890123\ntook_count 9\n";
 
 const FAMILY: Family<'static> = Family {
     name: b"failed",
@@ -74,7 +74,7 @@ fn is_counted(alloc: Global) -> bool {
         name: b"took",
         buckets: &BUCKETS,
         beyond: 2,
-        sum: 2_000,
+        sum: 1_234_567_890_123,
     };
     append_histogram(&mut text, &histogram).is_ok() && text.as_slice() == HISTOGRAM_TEXT
 }

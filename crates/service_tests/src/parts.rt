@@ -277,9 +277,9 @@ fn what_is_counted_is_written(rt: HostRuntime) {
         "\nforkproxy_answered_total{status=\"416\"} 1\n",
         "\nforkproxy_answered_total{status=\"other\"} 1\n",
         "\nforkproxy_timer_sent_total{message=\"request\"} 8\n",
-        "forkproxy_handling_micros_sum 200\nforkproxy_handling_micros_count 1\n",
+        "forkproxy_handling_seconds_sum 0.000200\nforkproxy_handling_seconds_count 1\n",
         "\nforkproxy_unkept_total 2\n",
-        "\nforkproxy_store_micros_sum 700\nforkproxy_store_micros_count 1\n",
+        "\nforkproxy_store_seconds_sum 0.000700\nforkproxy_store_seconds_count 1\n",
     ];
     let found = lines_in(rt.alloc(), &counts, &lines);
     holds(&rt, found == lines.len(), "the counters");

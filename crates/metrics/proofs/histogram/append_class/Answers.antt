@@ -3,4 +3,4 @@ use Rattle.metrics.proofs.histogram.append_class.Goals as goal
 
 pub returns : goal.returns
 returns g c =
-    four _ _ _ _ _ _ _ _ _ c.in_ok-extend_from_slice.ensures.items c.in_ok-extend_from_slice-2.ensures.items c.in_ok-append_decimal.ensures.ok c.in_ok-extend_from_slice-3.ensures.items
+    four _ _ _ _ _ _ _ _ _ c.in_ok-extend_from_slice.ensures.items c.in_ok-extend_from_slice-2.ensures.items c.in_ok-append_seconds.ensures c.in_ok-extend_from_slice-3.ensures.items
