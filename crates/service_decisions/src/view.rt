@@ -152,10 +152,18 @@ impl<'a, A: Allocator + Clone> ServiceView<'a, A> {
         }
     }
 
-    /// The bindings of a user that are there.
-    fn held<R: Wait>(&self, rt: &R, user: &[u8]) -> Result<UserBindings<A>, AllocError>
+    /// The bindings of a user that are there. Where nothing was ever bound, no lock is taken.
+    fn held<R: Wait>(
+        &self,
+        rt: &R,
+        alloc: &A,
+        user: &[u8],
+    ) -> Result<UserBindings<A>, AllocError>
         ensures { IfOk result (λ copies. (held : List Binding) × (copies ≡ there self.now.moment held)) }
     {
+        if !self.has_bindings {
+            return Ok(UserBindings::new(alloc.clone()?));
+        }
         self.bindings.there(rt, user, self.moment)
     }
 
@@ -168,10 +176,16 @@ impl<'a, A: Allocator + Clone> ServiceView<'a, A> {
     }
 
     /// Whether a user has a location, or a binding that is there.
-    fn has_user<R: Wait>(&self, rt: &R, setup: &Setup<A>, user: &[u8]) -> Result<bool, AllocError>
+    fn has_user<R: Wait>(
+        &self,
+        rt: &R,
+        alloc: &A,
+        setup: &Setup<A>,
+        user: &[u8],
+    ) -> Result<bool, AllocError>
         ensures { IfOk result (λ is. (held : List Binding) × (is ≡ has_place_at setup.now (OfUser user.now) self.now.moment held)) }
     {
-        let held = self.held(rt, user)?;
+        let held = self.held(rt, alloc, user)?;
         Ok(is_reached(setup, user, &held))
     }
 
@@ -179,13 +193,14 @@ impl<'a, A: Allocator + Clone> ServiceView<'a, A> {
     fn has_place_at<R: Wait>(
         &self,
         rt: &R,
+        alloc: &A,
         setup: &Setup<A>,
         place: &Place<A>,
     ) -> Result<bool, AllocError>
         ensures { IfOk result (λ is. (held : List Binding) × (is ≡ has_place_at setup.now (seen_place place.now) self.now.moment held)) }
     {
         match place {
-            Place::OfUser(user) => self.has_user(rt, setup, user),
+            Place::OfUser(user) => self.has_user(rt, alloc, setup, user),
             Place::Beyond(_) => Ok(false),
             Place::Nowhere => Ok(false),
         }
@@ -202,7 +217,7 @@ impl<'a, A: Allocator + Clone> ServiceView<'a, A> {
         ensures { IfOk result (λ is. (held : List Binding) × (is ≡ has_place_at setup.now (place_of setup.now rules.Stranger request.now) self.now.moment held)) }
     {
         let place = place_of(alloc.clone()?, setup, Rule::Stranger, request)?;
-        let has_place = self.has_place_at(rt, setup, &place)?;
+        let has_place = self.has_place_at(rt, alloc, setup, &place)?;
         Ok(has_place)
     }
 
@@ -292,7 +307,7 @@ impl<'a, A: Allocator + Clone> ServiceView<'a, A> {
         ensures { IfOk result (λ moment. (held : List Binding)
             × (or_standing setup.now moment ≡ opened_at (serving_of self.now) setup.now rule request.now source (seen_place place.now) held)) }
     {
-        let held = self.held(rt, user_at(place).unwrap_or(b""))?;
+        let held = self.held(rt, alloc, user_at(place).unwrap_or(b""))?;
         let contacts = contacts_of(alloc.clone()?, &held, self.moment)?;
         let by_gateways = self.by_gateways(rule, source, place);
         let moment = setup_for(
