@@ -420,7 +420,7 @@ fn prepared_read(alloc: Global, setup: &Setup<Global>) -> Option<PendingCall> {
     let Ok(top) = TopVia::of(&alloc, &opening.request, opening.source) else {
         return None;
     };
-    match PendingCall::new_read(setup, opening, &top) {
+    match PendingCall::new_read(setup, None, opening, &top) {
         Ok(prepared) => Some(prepared),
         Err(_) => None,
     }
@@ -453,7 +453,7 @@ fn opens_as_prepared(alloc: Global, setup: &Setup<Global>, invite: Message<Globa
         && prepared.source() == SOURCE
         && prepared.caller() == ANSWERED
         && prepared.request().is_invite();
-    match PendingCall::of(setup, alloc, prepared) {
+    match PendingCall::of(setup, None, alloc, prepared) {
         Ok(call) => named && call.into_request().is_invite(),
         Err(_) => false,
     }

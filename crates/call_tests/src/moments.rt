@@ -1,7 +1,7 @@
 //! A setup at a moment at which contacts are bound to a user: its targets, and by which hops requests reach them (RFC 3261 sections 10,
 //! 16.5 and 16.6). What a request loses, and what it gets, on its way (sections 16.6 step 4 and 22.3).
 use crate::holds::holds;
-use crate::requests::{Change, SETUP, opened_by, sent_to, setup_of};
+use crate::requests::{Change, SETUP, opened_with, request_with, sent_to, setup_of};
 use proxy_config::{BoundContact, DialogToken, Location, Setup};
 use proxy_routing::hop_to;
 use sip_route::FirstRoute;
@@ -157,15 +157,28 @@ fn stands_in(text: &[u8], part: &[u8]) -> bool {
     len > 0 && text.windows(len).any(|found| found == part)
 }
 
-/// Whether this stands in the request that goes to the first target where the request has these changes.
-fn sends(alloc: Global, setup: &Setup<Global>, changes: &[Change], part: &[u8]) -> Option<bool> {
-    match opened_by(alloc, setup, changes) {
+/// Whether this stands in the request that goes to the first target where the request has these changes, and is opened with this token, if
+/// there is one.
+fn sends_with(
+    alloc: Global,
+    setup: &Setup<Global>,
+    token: Option<DialogToken>,
+    changes: &[Change],
+    part: &[u8],
+) -> Option<bool> {
+    let request = request_with(alloc, changes)?;
+    match opened_with(alloc, setup, token, request) {
         Some(Ok(mut state)) => {
             let sent = sent_to(&mut state, 0)?;
             Some(stands_in(&sent.bytes, part))
         }
         Some(Err(_)) | None => None,
     }
+}
+
+/// The same without a token.
+fn sends(alloc: Global, setup: &Setup<Global>, changes: &[Change], part: &[u8]) -> Option<bool> {
+    sends_with(alloc, setup, None, changes, part)
 }
 
 /// An INVITE whose Call-ID is `r1`.
@@ -190,6 +203,8 @@ fn a_dialog_gets_its_token(rt: HostRuntime) {
     let setup = setup.recording();
     let none = sends(rt.alloc(), &setup, &INVITE, line);
     holds(&rt, none == Some(false), "without a token");
+    let beside = sends_with(rt.alloc(), &setup, Some(TOKEN), &INVITE, line);
+    holds(&rt, beside == Some(true), "with one beside the setup");
     let setup = setup.with_token(TOKEN);
     holds(&rt, setup.token().is_some(), "a token");
     let some = sends(rt.alloc(), &setup, &INVITE, line);

@@ -5,7 +5,7 @@ use call_messages::lines::{REQUEST, text_of};
 use call_model::Datagram;
 use call_state::CallState;
 use fork_call::{OpeningRequest, is_openable, open_to, prepare};
-use proxy_config::Setup;
+use proxy_config::{DialogToken, Setup};
 use proxy_routing::RequestRejection;
 use sip_text::Message;
 use sip_uri::{Hop, Transport};
@@ -85,10 +85,12 @@ pub fn opening_of(alloc: Global, request: Message<Global>) -> OpeningRequest<Glo
     }
 }
 
-/// The parts of the call that a request opens as number 3, or the fault. None where it is no request that may open a call.
-pub fn opened(
+/// The parts of the call that a request opens as number 3, with this token, if there is one, or the fault. None where it is no request
+/// that may open a call.
+pub fn opened_with(
     alloc: Global,
     setup: &Setup<Global>,
+    token: Option<DialogToken>,
     request: Message<Global>,
 ) -> Option<Result<CallState, RequestRejection>> {
     if !is_openable(&request) {
@@ -98,13 +100,22 @@ pub fn opened(
         Ok(prepared) => prepared,
         Err(why) => return Some(Err(why.fault())),
     };
-    match open_to(setup, prepared) {
+    match open_to(setup, token, prepared) {
         Ok(mut state) => {
             state.set_number(3);
             Some(Ok(state))
         }
         Err(why) => Some(Err(why.fault())),
     }
+}
+
+/// The same without a token.
+pub fn opened(
+    alloc: Global,
+    setup: &Setup<Global>,
+    request: Message<Global>,
+) -> Option<Result<CallState, RequestRejection>> {
+    opened_with(alloc, setup, None, request)
 }
 
 /// The same for the request with these changes.

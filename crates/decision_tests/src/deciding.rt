@@ -43,10 +43,12 @@ const OUTSIDE: Hop = Hop {
     transport: Transport::Udp,
 };
 
-/// What is decided, as far as it is told: a setup with so many targets, whether it has a token; or a status.
+/// What is decided, as far as it is told: the setup as it stands, with a token or without; another with so many targets, whether it has a
+/// token; or a status.
 #[derive(Clone, Copy, PartialEq, Eq)]
 enum Verdict {
     Stands,
+    StandsWith,
     Targets(usize, bool),
     Status(u16),
     Leaves,
@@ -56,6 +58,7 @@ enum Verdict {
 fn verdict_of(decided: &Decided<Global>) -> Verdict {
     match &decided.decision {
         Decision::Opens => Verdict::Stands,
+        Decision::OpensWith(_) => Verdict::StandsWith,
         Decision::OpensBy(setup) => {
             Verdict::Targets(setup.locations().len(), setup.token().is_some())
         }
@@ -155,16 +158,16 @@ const ROWS: &[Row<'static>] = &[
         ELSEWHERE,
         EVE,
         CAROL,
-        Verdict::Targets(0, true),
+        Verdict::StandsWith,
     ),
-    // to the gateway itself, and to a user without a binding, there is no target
+    // to the gateway itself, and to a user without a binding, there is no further target
     (
         REALM,
         GATEWAY,
         ABROAD,
         EVE,
         CAROL,
-        Verdict::Targets(0, true),
+        Verdict::StandsWith,
     ),
     (
         REALM,
@@ -172,7 +175,7 @@ const ROWS: &[Row<'static>] = &[
         FOR_BOB,
         EVE,
         CAROL,
-        Verdict::Targets(0, true),
+        Verdict::StandsWith,
     ),
     // who says to be of the domain is asked for a password
     (REALM, OUTSIDE, ELSEWHERE, BOB, CAROL, Verdict::Status(407)),

@@ -119,7 +119,7 @@ fn is_decided(decided: &Decided<Scarce<'_>>, status: Option<u16>) -> bool {
     match &decided.decision {
         Decision::OpensBy(setup) => status.is_none() && setup.locations().len() == 1,
         Decision::Answers(answer) => status == Some(answer.status().code()),
-        Decision::Opens | Decision::Leaves => false,
+        Decision::Opens | Decision::OpensWith(_) | Decision::Leaves => false,
     }
 }
 

@@ -3,6 +3,7 @@ use crate::holds::holds;
 use crate::texts::{bindings_of, request_of, settings_of};
 use authentication::Rule;
 use proxy_config::{DialogToken, Location, Setup};
+use proxy_dispatch::Decision;
 use proxy_routing::hop_to;
 use service_config::ServiceSettings;
 use service_decisions::{Place, contacts_of, may_use_gateways, place_of, setup_for};
@@ -42,8 +43,8 @@ const TO_CAROL: &[u8] = b"t: <sip:carol@example.com>";
 /// counts.
 type Asked<'a> = (Rule, Hop, &'a [u8], &'a [u8], &'a [(Hop, u64)]);
 
-/// A setup that was made, or none; or that it was not asked for want of memory.
-type Made = Option<Option<Setup<Global>>>;
+/// By which setup it is opened; None where it was not asked for want of memory.
+type Made = Option<Decision<Global>>;
 
 /// The setup by which a request is opened at a place, at 1,000 ms.
 fn made_at(
@@ -93,7 +94,7 @@ fn made(alloc: Global, asked: &Asked<'_>, token: Option<DialogToken>) -> Made {
 
 /// Whether the setup as it stands leads there.
 fn stands(made: Made) -> bool {
-    matches!(made, Some(None))
+    matches!(made, Some(Decision::Opens))
 }
 
 /// Whether a target has this user, this key and this hop.
@@ -113,8 +114,8 @@ fn has_targets(setup: &Setup<Global>, user: &[u8], wanted: &[(&[u8], Hop)]) -> b
 /// Whether the targets of this user are these.
 fn reaches(made: Made, user: &[u8], wanted: &[(&[u8], Hop)]) -> bool {
     match made {
-        Some(Some(setup)) => has_targets(&setup, user, wanted),
-        Some(None) | None => false,
+        Some(Decision::OpensBy(setup)) => has_targets(&setup, user, wanted),
+        _ => false,
     }
 }
 
@@ -192,7 +193,9 @@ fn way(alloc: Global, rule: Rule, to: &[u8]) -> Option<Hop> {
         to,
         &[(TRANSLATED, 2_000), (ANOTHER, 2_000)],
     );
-    let setup = made(alloc, &asked, None)??;
+    let Some(Decision::OpensBy(setup)) = made(alloc, &asked, None) else {
+        return None;
+    };
     match SipUri::read(alloc, b"sip:carol@10.0.0.2:5070") {
         Ok(uri) => hop_to(&setup, FirstRoute::Absent, &uri),
         Err(_) => None,
@@ -221,10 +224,11 @@ const TOKEN: DialogToken = DialogToken {
     second: 1_764_400_000,
 };
 
-/// Whether the setup has the token.
+/// Whether it is opened with the token.
 fn has_token(made: Made) -> bool {
     match made {
-        Some(Some(setup)) => setup.token().is_some(),
+        Some(Decision::OpensWith(token)) => token.second == TOKEN.second,
+        Some(Decision::OpensBy(setup)) => setup.token().is_some(),
         _ => false,
     }
 }
@@ -240,6 +244,15 @@ fn a_request_that_opens_a_dialog_gets_a_token(rt: HostRuntime) {
         let well = has_token(made(rt.alloc(), &asked, Some(TOKEN)));
         holds(&rt, well, "an INVITE");
     }
+    let asked: Asked<'_> = (
+        Rule::Trusted,
+        INSIDE,
+        FOR_CAROL,
+        TO_CAROL,
+        &[(ANOTHER, 2_000)],
+    );
+    let well = has_token(made(rt.alloc(), &asked, Some(TOKEN)));
+    holds(&rt, well, "an INVITE to a contact");
     let asked: Asked<'_> = (
         Rule::Trusted,
         INSIDE,

@@ -6,7 +6,7 @@ use crate::texts::{SOURCE, setup_of, shelf_of};
 use authentication::OwnAnswer;
 use call_messages::lines::{CALL_ID, FROM, MARKED, TAGGED, TO, VIA, text_of};
 use fork_call::Setup;
-use proxy_config::BoundContact;
+use proxy_config::{BoundContact, DialogToken};
 use proxy_dispatch::{Admission, Decision, Handled, Opener, Received, SharedCalls, handle};
 use sip_build::OwnStatus;
 use sip_text::Message;
@@ -18,6 +18,8 @@ use std::sync::Wait;
 #[derive(Clone, Copy)]
 enum Verdict {
     Opens,
+    /// By the setup as it stands, with a token.
+    OpensWith,
     /// By a setup in which carol has a contact.
     OpensBy,
     Answers,
@@ -36,6 +38,12 @@ const CONTACT: Hop = Hop {
     addr: [198, 51, 100, 7],
     port: 41_000,
     transport: Transport::Udp,
+};
+
+/// What the token of a dialog is made with.
+const TOKEN: DialogToken = DialogToken {
+    secret: [7; 32],
+    second: 1_764_400_000,
 };
 
 /// The setup of a moment at which carol has a contact.
@@ -60,6 +68,7 @@ fn decision_of<A: Allocator + Clone>(
 ) -> Result<Decision<A>, AllocError> {
     match verdict {
         Verdict::Opens => Ok(Decision::Opens),
+        Verdict::OpensWith => Ok(Decision::OpensWith(TOKEN)),
         Verdict::OpensBy => Ok(Decision::OpensBy(moment_of(alloc, setup)?)),
         Verdict::Answers => Ok(Decision::Answers(forbidden(alloc)?)),
         Verdict::Leaves => Ok(Decision::Leaves),
@@ -192,8 +201,9 @@ const ACK: [&[u8]; 8] = [
 /// What is decided of a request, whether the registrar answers, if there is one, the lines of a datagram, and what becomes of it.
 type Row<'a> = (Verdict, Option<bool>, &'a [&'a [u8]], Handled);
 
-const ROWS: [Row<'static>; 14] = [
+const ROWS: [Row<'static>; 16] = [
     (Verdict::Opens, None, &ASKED, Handled::Answered(480)),
+    (Verdict::OpensWith, None, &ASKED, Handled::Answered(480)),
     (Verdict::OpensBy, Some(false), &ASKED, Handled::Opened(0)),
     (
         Verdict::Answers,
@@ -225,6 +235,7 @@ const ROWS: [Row<'static>; 14] = [
         Handled::Answered(403),
     ),
     (Verdict::Opens, Some(false), &ACK, Handled::Forwarded),
+    (Verdict::OpensWith, Some(false), &ACK, Handled::Forwarded),
     (Verdict::Answers, Some(false), &ACK, Handled::Dropped),
     (Verdict::Leaves, Some(true), &ACK, Handled::Dropped),
 ];

@@ -47,6 +47,11 @@ abbrev pub dialog_route : Own → Option DialogToken → (call_id : List ℕ) �
 dialog_route own None id = own_route own
 dialog_route own (Some token) id = own_route_with own (token_text token.secret id token.second)
 
+-- a setup with this token in place of its own, where there is one
+abbrev pub with_token : Option DialogToken → Setup → Setup
+with_token None setup = setup
+with_token (Some token) setup = record setup { token = Some token }
+
 -- the value of the Record-Route line by which the proxy stays on the path of the dialog that the request opens, where it is to
 -- (section 16.6 step 4)
 abbrev pub record_route_of : Setup → MessageText → Option (List ℕ)

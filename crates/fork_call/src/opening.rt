@@ -14,7 +14,7 @@ ghost use Rattle.fork_rank.specs.KindView as kinds;
 ghost use Rattle.fork_model.specs.Log.{opening_log, table_of};
 ghost use Rattle.proxy_routing.specs.Admission.{target_uri};
 ghost use Rattle.proxy_routing.specs.Unrouted.{IfRejected};
-ghost use Rattle.fork_call.specs.Opening.{IsBegun, IsOpenable, IsRefusedFor, Reaches, tried_by};
+ghost use Rattle.fork_call.specs.Opening.{IsBegun, IsOpenable, IsRefusedFor, Reaches, tried_by, with_token};
 ghost use Rattle.fork_call.specs.Prepared.{IsPreparedAs, IsStoppedFor, IsUnreachableAs};
 ghost use Rattle.fork_call.specs.inner.Refused.{AsksAs, HasTarget};
 ghost use Rattle.fork_call.specs.Destinations.{AreDestinations, destination_to};
@@ -32,7 +32,7 @@ use call_state::CallState;
 use fork_book::Book;
 use fork_context::{Kind, NewFault};
 use fork_rank::Rules;
-use proxy_config::{Setup, locations_are_targets};
+use proxy_config::{DialogToken, Setup, locations_are_targets};
 use proxy_routing::{
     CandidateTarget, RequestRejection, Unrouted, asks_extension, candidates, have_hops, hop_if_any,
     is_responsible_for, targets_of, validate_read, what_was_read_tells_the_reply,
@@ -191,6 +191,7 @@ const NO_NUMBER: u64 = 0;
 /// The state of the call that opens for a request to this URI, as it was prepared.
 fn open_at<A: Allocator + Clone>(
     setup: &Setup<A>,
+    token: Option<DialogToken>,
     opening: OpeningRequest<A>,
     uri: &SipUri<A>,
     caller: Hop,
@@ -198,7 +199,7 @@ fn open_at<A: Allocator + Clone>(
     requires request { is_request opening.request.start ≡ true }
     requires caller { caller ≡ reply_of (via_of (top_value opening.request)) opening.source }
     requires hops { IfSome (first_value hops_name opening.request.headers) IsHops }
-    ensures opened { IfOk result (Reaches setup.now 0 opening.request opening.source uri.now) }
+    ensures opened { IfOk result (Reaches (with_token token setup.now) 0 opening.request opening.source uri.now) }
     ensures refused { IfErr result (IfRejected (IsUnreachableAs setup.now opening.request uri.now)) }
 {
     let OpeningRequest {
@@ -217,7 +218,7 @@ fn open_at<A: Allocator + Clone>(
         return Err(Unrouted::Rejected(RequestRejection::NoHop, request));
     }
     let streams = setup.has_streams();
-    let record_route = record_route_of(alloc.clone()?, setup, &request)?;
+    let record_route = record_route_of(alloc.clone()?, setup, token, &request)?;
     let opened = OpenedRequest::new(Opening {
         number: NO_NUMBER,
         own: setup.own(),
@@ -326,19 +327,20 @@ pub fn prepare<A: Allocator + Clone>(
 /// The state of the call that a request opens, as it was prepared. The targets of a request to the domain are the locations of its
 /// user; the one target of any other is its Request-URI, for which the proxy is not responsible: contacts of a 3xx are tried in the
 /// domain alone (RFC 3261 sections 16.5 and 16.6). Nothing was sent yet; a 100 is owed to an INVITE. The call has number 0 until it
-/// is given its own.
+/// is given its own. Where there is a token, it stands in the Record-Route line in place of the setup's own.
 ///
 /// # Errors
 ///
 /// `Rejected` with `NoTarget` or `NoHop`, and the request; `NoMemory` wherever the allocator refuses.
 pub fn open_to<A: Allocator + Clone>(
     setup: &Setup<A>,
+    token: Option<DialogToken>,
     prepared: PreparedRequest<A>,
 ) -> Result<CallState<A>, Unrouted<A>>
-    ensures opened { IfOk result (Reaches setup.now 0 prepared.request prepared.source prepared.uri) }
+    ensures opened { IfOk result (Reaches (with_token token setup.now) 0 prepared.request prepared.source prepared.uri) }
     ensures refused { IfErr result (IfRejected (IsUnreachableAs setup.now prepared.request prepared.uri)) }
 {
     let caller = prepared.caller();
     let (opening, uri) = prepared.into_parts();
-    open_at(setup, opening, &uri, caller)
+    open_at(setup, token, opening, &uri, caller)
 }

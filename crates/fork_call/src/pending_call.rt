@@ -2,7 +2,7 @@
 ghost use Rattle.std.specs.Prelude.{◌≡◌, ℕ, IfErr, IfOk};
 ghost use Rattle.sip_via.specs.ReadTop.{IsTopOf};
 ghost use Rattle.call_model.specs.Call.{numbered};
-ghost use Rattle.fork_call.specs.Opening.{IsOpenable, IsRefusedFor, Opens, Reaches};
+ghost use Rattle.fork_call.specs.Opening.{IsOpenable, IsRefusedFor, Opens, Reaches, with_token};
 ghost use Rattle.fork_call.specs.Prepared.{IsUnreachableAs};
 ghost use Rattle.proxy_routing.specs.Unrouted.{IfRejected};
 
@@ -16,7 +16,7 @@ use call_laws::calls_send_right;
 use call_model::calls_stay_sound;
 use call_state::CallState;
 use call_table::Pending;
-use proxy_config::Setup;
+use proxy_config::{DialogToken, Setup};
 use proxy_routing::Unrouted;
 use sip_text::Message;
 use sip_via::TopVia;
@@ -57,51 +57,55 @@ impl<A: Allocator + Clone> PendingCall<A> {
         ensures refused { IfErr result (IfRejected (IsRefusedFor setup.now opening.request opening.source)) }
     {
         match TopVia::of(&opening.alloc, &opening.request, opening.source) {
-            Ok(top) => PendingCall::new_read(setup, opening, &top),
+            Ok(top) => PendingCall::new_read(setup, None, opening, &top),
             Err(AllocError) => Err(Unrouted::NoMemory),
         }
     }
 
-    /// The same of a request of whose top Via value this was read: the value is not read again.
+    /// The same of a request of whose top Via value this was read: the value is not read again. Where there is a token, the dialog that
+    /// it opens gets that one in place of the setup's own: so no setup has to be made for it.
     ///
     /// # Errors
     ///
     /// Those of [`PendingCall::new`].
     pub fn new_read(
         setup: &Setup<A>,
+        token: Option<DialogToken>,
         opening: OpeningRequest<A>,
         top: &TopVia<A>,
     ) -> Result<PendingCall<A>, Unrouted<A>>
         requires openable { IsOpenable opening.request.start }
         requires top { IsTopOf opening.request opening.source top.now }
-        ensures opened { IfOk result (λ pending_call. (number : ℕ) → Opens setup.now number opening.request opening.source (numbered number pending_call)) }
-        ensures refused { IfErr result (IfRejected (IsRefusedFor setup.now opening.request opening.source)) }
+        ensures opened { IfOk result (λ pending_call. (number : ℕ)
+            → Opens (with_token token setup.now) number opening.request opening.source (numbered number pending_call)) }
+        ensures refused { IfErr result (IfRejected (IsRefusedFor (with_token token setup.now) opening.request opening.source)) }
     {
         let alloc = opening.alloc.clone()?;
         match prepare_read(setup, opening, top) {
-            Ok(prepared) => PendingCall::of(setup, alloc, prepared),
+            Ok(prepared) => PendingCall::of(setup, token, alloc, prepared),
             Err(unrouted) => Err(unrouted),
         }
     }
 
-    /// What a request opens as it was prepared, as [`open_to`] says it.
+    /// What a request opens as it was prepared, with this token, if there is one, as [`open_to`] says it.
     ///
     /// # Errors
     ///
     /// `NoTarget` or `NoHop`, with the request; `NoMemory` wherever the allocator refuses.
     pub fn of(
         setup: &Setup<A>,
+        token: Option<DialogToken>,
         alloc: A,
         prepared: PreparedRequest<A>,
     ) -> Result<PendingCall<A>, Unrouted<A>>
         ensures opened { IfOk result (λ pending_call. (number : ℕ)
-            → Reaches setup.now number prepared.request prepared.source prepared.uri (numbered number pending_call)) }
+            → Reaches (with_token token setup.now) number prepared.request prepared.source prepared.uri (numbered number pending_call)) }
         ensures refused { IfErr result (IfRejected (IsUnreachableAs setup.now prepared.request prepared.uri)) }
     {
         calls_stay_sound();
         calls_send_right();
         let rest = alloc.clone()?;
-        let state = match open_to(setup, prepared) {
+        let state = match open_to(setup, token, prepared) {
             Ok(state) => state,
             Err(unrouted) => return Err(unrouted),
         };

@@ -5,7 +5,7 @@ ghost use Rattle.sip_text.specs.Message.{is_line, is_value};
 ghost use Rattle.sip_via.specs.OwnVia.{IsOwn};
 ghost use Rattle.sip_build.specs.Dialogs.{opens_dialog};
 ghost use Rattle.sip_build.specs.OwnRoute.{own_route};
-ghost use Rattle.fork_call.specs.Opening.{dialog_route, own_route_with, record_route_of};
+ghost use Rattle.fork_call.specs.Opening.{dialog_route, own_route_with, record_route_of, with_token};
 
 use proxy_config::{DialogToken, Setup, append_address};
 use sip_build::{opens_dialog, write_own_route};
@@ -91,19 +91,31 @@ fn is_recorded<A: Allocator>(setup: &Setup<A>, request: &Message<A>) -> bool
     setup.records() && opens_dialog(request)
 }
 
+/// This token, or else the one of the setup, if there is one.
+fn token_or_own<A: Allocator>(setup: &Setup<A>, token: Option<DialogToken>) -> Option<DialogToken>
+    ensures { result ≡ (with_token token setup.now).token }
+{
+    match token {
+        None => setup.token(),
+        Some(_) => token,
+    }
+}
+
 /// The value of the Record-Route line by which the proxy stays on the path of the dialog that the request opens, where it is to
-/// (RFC 3261 section 16.6 step 4). It takes memory only there.
+/// (RFC 3261 section 16.6 step 4), with this token in place of the setup's own, if there is one. It takes memory only there.
 pub(crate) fn record_route_of<A: Allocator + Clone>(
     alloc: A,
     setup: &Setup<A>,
+    token: Option<DialogToken>,
     request: &Message<A>,
 ) -> Result<Option<Vec<u8, A>>, AllocError>
-    ensures value { IfOk result (λ made. option_map (λ v. v.items) made ≡ record_route_of setup.now request.now) }
+    ensures value { IfOk result (λ made. option_map (λ v. v.items) made ≡ record_route_of (with_token token setup.now) request.now) }
     ensures good { IfOk result (λ made. IfSome (option_map (λ v. v.items) made) (λ value. IsTrue (is_value value))) }
 {
     if !is_recorded(setup, request) {
         return Ok(None);
     }
-    let route = dialog_route(alloc, setup.own(), setup.token(), request.call_id())?;
+    let token = token_or_own(setup, token);
+    let route = dialog_route(alloc, setup.own(), token, request.call_id())?;
     Ok(Some(route))
 }

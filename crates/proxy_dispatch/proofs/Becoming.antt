@@ -25,10 +25,12 @@ use Rattle.proxy_routing.specs.declared.unrouted.Unrouted.TheVariants as unroute
 use Rattle.proxy_routing.specs.Admission.{IsPrepared}
 use Rattle.proxy_routing.specs.Refusing.{status_of_fault}
 use Rattle.proxy_routing.specs.Unrouted.{IfRejected, IsTurnedBack, fault_of}
-use Rattle.fork_call.specs.Opening.{Opens}
+use Rattle.fork_call.specs.Opening.{Opens, with_token}
+use Rattle.fork_call.proofs.laws.WithToken.{admitted_with}
+use Rattle.proxy_config.specs.declared.dialog_token.DialogToken.{DialogToken}
 use Rattle.proxy_dispatch.specs.Asking.{asks_service}
 use Rattle.proxy_dispatch.specs.Admitting.{Decision, opener_of}
-use Rattle.proxy_dispatch.specs.Becomes.{AckDecided, AdmittedBecomes, AskedBecomes, Becomes, BecomesBy, DecidedBecomes, KeyBecomes, LooksFor, MarkedBecomes, MessageBecomes, NewBecomes, OpenerBecomes, RegisteredBecomes, RegisteringBecomes, RequestBecomes, UnknownBecomes}
+use Rattle.proxy_dispatch.specs.Becomes.{AckBecomes, AckDecided, AdmittedBecomes, AskedBecomes, Becomes, BecomesBy, DecidedBecomes, KeyBecomes, LooksFor, MarkedBecomes, MessageBecomes, NewBecomes, OpenerBecomes, RegisteredBecomes, RegisteringBecomes, RequestBecomes, UnknownBecomes}
 use Rattle.proxy_dispatch.specs.Looks.{Found, Shows, ShowsAll}
 use Rattle.proxy_dispatch.specs.declared.admission.Opener.{Opener}
 use Rattle.proxy_dispatch.specs.declared.admission.Opener.TheVariants as openers
@@ -37,7 +39,7 @@ use Rattle.proxy_dispatch.specs.Passing.{GoesOn, HasOwnTag}
 use Rattle.proxy_dispatch.specs.Purpose.{purpose_of}
 use Rattle.proxy_dispatch.specs.declared.purpose.RequestKind.TheVariants as purposes
 use Rattle.proxy_dispatch.specs.Sent.{answer_made, answer_of, answer_to, passed_text, passing_branch}
-use Rattle.proxy_dispatch.specs.declared.datagrams.Handled.TheVariants.{Answered}
+use Rattle.proxy_dispatch.specs.declared.datagrams.Handled.TheVariants.{Dropped, Absorbed, Answered, TurnedAway, Forwarded, Left, Opened, Delivered}
 
 -- ---- ACKs
 
@@ -51,6 +53,24 @@ pub stopped : {A : Type 0} (setup : Setup) (m : MessageText) (source : Hop) (why
     → (fault : RequestRejection) → fault ≡ fault_of why → (status : Option ℕ) → status ≡ status_of_fault fault → (n : ℕ) → status ≡ Some n → Passes setup m source None
 stopped setup m source (unrouted.Rejected f back) h fault e status s n is = inl (f, n, h.0, sym (ap status_of_fault e) ∙ sym s ∙ is)
 stopped setup m source unrouted.NoMemory h fault e status s n is = absurd (let none : None ≡ Some n = sym (ap status_of_fault e) ∙ sym s ∙ is in cc)
+
+-- by a setup with another token as by this one
+passes_with : (token : DialogToken) (setup : Setup) (m : MessageText) (source : Hop) (sent : Option Datagram)
+    → Passes setup m source sent → Passes (with_token (Some token) setup) m source sent
+passes_with token setup m source None (inl h) = inl h
+passes_with token setup m source None (inr h) = inr (h.0, admitted_with (Some token) setup m source h.0 h.1, h.2)
+passes_with token setup m source (Some datagram) h = (h.0, admitted_with (Some token) setup m source h.0 h.1, h.2)
+
+pub ack_with : (token : DialogToken) (setup : Setup) (m : MessageText) (source : Hop) (handled : Handled) (sent : Option Datagram)
+    → AckBecomes setup m source handled sent → AckBecomes (with_token (Some token) setup) m source handled sent
+ack_with token setup m source Dropped sent h = (h.0, passes_with token setup m source None h.1, h.2)
+ack_with token setup m source Absorbed sent h = h
+ack_with token setup m source (Answered status) sent h = absurd h
+ack_with token setup m source TurnedAway sent h = absurd h
+ack_with token setup m source Forwarded sent h = (h.0, h.1, h.2, passes_with token setup m source (Some h.1) h.3)
+ack_with token setup m source Left sent h = absurd h
+ack_with token setup m source (Opened number) sent h = absurd h
+ack_with token setup m source (Delivered number) sent h = absurd h
 
 pub passed_text_so : (setup : Setup) (request : MessageText) (uri : Uri) (hop : Hop) (own : Own) (branch : BranchName) (old text : List ℕ)
     → text ≡ old ++ spelling (forwarded request uri own branch None) → old ≡ [] → own ≡ over setup.own hop.transport → branch ≡ passing_branch setup request

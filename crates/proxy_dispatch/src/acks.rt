@@ -182,6 +182,7 @@ pub(crate) fn acknowledged<A: Allocator + Clone, N: Admission<A>, R: Wait>(
     let decision = admission.decides(rt, &alloc, setup, &ack, source, now)?;
     match decision {
         Decision::Opens => going(alloc, setup, ack, source, &top),
+        Decision::OpensWith(_) => going(alloc, setup, ack, source, &top),
         Decision::OpensBy(moment) => going(alloc, &moment, ack, source, &top),
         Decision::Answers(_) => Ok(Outcome::silent(Handled::Dropped)),
         Decision::Leaves => Ok(Outcome::silent(Handled::Dropped)),

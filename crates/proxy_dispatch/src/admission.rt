@@ -6,6 +6,7 @@ ghost use Rattle.proxy_dispatch.specs.SeenDecision.{seen_decision};
 
 use authentication::OwnAnswer;
 use fork_call::Setup;
+use proxy_config::DialogToken;
 use proxy_routing::is_responsible_for;
 use sip_route::request_uri;
 use sip_text::Message;
@@ -29,6 +30,8 @@ pub enum Opener {
 pub enum Decision<A: Allocator> {
     /// It is opened by the setup as it stands.
     Opens,
+    /// It is opened by the setup as it stands, but with this token in the Record-Route line of the dialog that it opens.
+    OpensWith(DialogToken),
     /// It is opened by this setup: that of the moment, in which the locations of a user may be others, the ways, and the token of a
     /// dialog.
     OpensBy(Setup<A>),

@@ -8,7 +8,7 @@ ghost use Rattle.sip_via.specs.Sender.{seen_sender, sender_if_read};
 ghost use Rattle.sip_via.specs.ViaParts.{ViaText};
 ghost use Rattle.sip_route.specs.RequestKey.{key_if_read, request_key};
 ghost use Rattle.call_model.specs.Call.{numbered};
-ghost use Rattle.fork_call.specs.Opening.{IsOpenable, Opens};
+ghost use Rattle.fork_call.specs.Opening.{IsOpenable, Opens, with_token};
 ghost use Rattle.proxy_config.specs.Setup as spec;
 ghost use Rattle.sip_text.specs.Text.{MessageText};
 ghost use Rattle.proxy_dispatch.specs.declared.purpose.RequestKind.TheVariants as purposes;
@@ -35,6 +35,7 @@ use crate::registers::registered;
 use authentication::OwnAnswer;
 use call_table::PendingFault;
 use fork_call::{OpeningRequest, PendingCall, PreparedRequest, Setup, Unrouted, prepare_read};
+use proxy_config::DialogToken;
 use sip_build::OwnStatus;
 use sip_route::append_sender_key;
 use sip_text::Message;
@@ -107,12 +108,13 @@ fn put<A: Allocator + Clone, R: Wait>(
     }
 }
 
-/// What becomes of a request that opens a call by this setup, or is answered with the status that tells why not. The call is prepared
-/// before the keys are locked, so no other thread waits for that.
+/// What becomes of a request that opens a call by this setup, with this token in place of its own, if there is one, or is answered with
+/// the status that tells why not. The call is prepared before the keys are locked, so no other thread waits for that.
 fn opened_by<A: Allocator + Clone, R: Wait>(
     rt: &R,
     table: &mut SharedCalls<'_, A>,
     setup: &Setup<A>,
+    token: Option<DialogToken>,
     key: Vec<u8, A>,
     opening: OpeningRequest<A>,
     top: &TopVia<A>,
@@ -120,12 +122,13 @@ fn opened_by<A: Allocator + Clone, R: Wait>(
     requires openable { IsOpenable opening.request.start }
     requires top { IsTopOf opening.request opening.source top.now }
     ensures { IfOk result (λ outcome. (looks : List Look) × ShowsAll shown table.old looks table.new
-        × OpeningBecomes setup.now opening.request opening.source opening.now key.items looks outcome.handled (seen_sent outcome.datagram)) }
+        × OpeningBecomes (with_token token setup.now) opening.request opening.source opening.now key.items looks outcome.handled
+        (seen_sent outcome.datagram)) }
 {
     let alloc = opening.alloc.clone()?;
     let source = opening.source;
     let now = opening.now;
-    match PendingCall::new_read(setup, opening, top) {
+    match PendingCall::new_read(setup, token, opening, top) {
         Ok(pending) => put(rt, table, key, pending, source, now),
         Err(why) => match why {
             Unrouted::Rejected(fault, request) => rejected(alloc, request, source, top, fault),
@@ -212,8 +215,9 @@ fn decided<A: Allocator + Clone, R: Wait>(
         looks outcome.handled (seen_sent outcome.datagram)) }
 {
     match decision {
-        Decision::Opens => opened_by(rt, table, setup, key, opening, top),
-        Decision::OpensBy(moment) => opened_by(rt, table, &moment, key, opening, top),
+        Decision::Opens => opened_by(rt, table, setup, None, key, opening, top),
+        Decision::OpensWith(token) => opened_by(rt, table, setup, Some(token), key, opening, top),
+        Decision::OpensBy(moment) => opened_by(rt, table, &moment, None, key, opening, top),
         Decision::Answers(answer) => refused(setup, opening, top, &answer),
         Decision::Leaves => left(setup, opening, top),
     }

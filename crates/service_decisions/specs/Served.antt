@@ -31,7 +31,8 @@ may_be_abroad serving (Beyond user) = false
 may_be_abroad serving Nowhere = false
 
 abbrev pub by_gateways : Serving → Rule → Hop → Place → Bool
-by_gateways serving rule source place = may_use_gateways serving.settings rule source && may_be_abroad serving place
+by_gateways serving rule source place =
+    not (is_none_of serving.settings.gateways) && (may_use_gateways serving.settings rule source && may_be_abroad serving place)
 
 -- by the setup of the moment, where so much was bound to the user who counts
 abbrev pub opened_at : Serving → Setup → Rule → MessageText → Hop → Place → List Binding → Setup
@@ -41,10 +42,9 @@ opened_at serving setup rule m source place held =
 abbrev pub opened_by : Serving → Setup → Rule → MessageText → Hop → List Binding → Setup
 opened_by serving setup rule m source held = opened_at serving setup rule m source (place_of setup rule m) held
 
--- where there is no gateway and no token, what is opened while nothing is held is opened by the setup as it stands
-pub record IsPlain (serving : Serving) : Type 0 where
-  pub gateways : serving.settings.gateways ≡ []
-  pub token : serving.token ≡ None
+-- where there is no gateway, what is opened while nothing is held is opened by the setup as it stands, with the token of the dialog
+abbrev pub IsPlain : Serving → Type 0
+IsPlain serving = serving.settings.gateways ≡ []
 
 -- ---- what is known of the request
 

@@ -7,6 +7,7 @@ use Rattle.sip_uri.specs.declared.fault.UriFault.{UriFault}
 use Rattle.sip_uri.specs.declared.hop.Hop.{Hop}
 use Rattle.sip_uri.specs.Uri.{Uri, request_uri}
 use Rattle.sip_build.specs.Dialogs.{opens_dialog}
+use Rattle.fork_call.specs.Opening.{with_token}
 use Rattle.authentication.specs.declared.decision.Rule.{Rule}
 use Rattle.authentication.specs.declared.decision.Rule.TheVariants.{Trusted, InDialog, Password, Stranger}
 use Rattle.authentication.specs.Party.{uri_in}
@@ -107,27 +108,17 @@ moment_at setup (OfUser user) contacts = at_moment user contacts setup
 moment_at setup (Beyond user) contacts = with_ways contacts setup
 moment_at setup Nowhere contacts = with_ways [] setup
 
-abbrev pub with_token : Option DialogToken → Setup → Setup
-with_token None setup = setup
-with_token (Some token) setup = record setup { token = Some token }
-
 -- a request that opens a dialog has the token in its Record-Route line
 abbrev pub token_for : Option DialogToken → MessageText → Option DialogToken
 token_for token m = if opens_dialog m then token else None
 
--- there is neither a contact nor a token
-abbrev pub stands : List BoundContact → Option DialogToken → Bool
-stands contacts None = is_none_of contacts
-stands contacts (Some token) = false
+-- without contacts the setup leads there as it stands
+abbrev pub moment_or_standing : Setup → Place → List BoundContact → Setup
+moment_or_standing setup place contacts = if is_none_of contacts then setup else moment_at setup place contacts
 
 abbrev pub setup_with : Setup → Place → List BoundContact → Option DialogToken → Setup
-setup_with setup place contacts token = if stands contacts token then setup else with_token token (moment_at setup place contacts)
+setup_with setup place contacts token = with_token token (moment_or_standing setup place contacts)
 
--- the setup as it stands where it leads there
 abbrev pub setup_for : Setup → List Gateway → (by_gateways : Bool) → Place → List BoundContact → Option DialogToken → MessageText → Setup
 setup_for setup gateways by_gateways place contacts token m =
     setup_with setup place (reached_at setup gateways by_gateways place contacts) (token_for token m)
-
-abbrev pub or_standing : Setup → Option Setup → Setup
-or_standing setup None = setup
-or_standing setup (Some moment) = moment

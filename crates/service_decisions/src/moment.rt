@@ -1,12 +1,17 @@
 //! The setup by which a request is opened.
 ghost use Rattle.std.specs.Prelude.{◌≡◌, ◌&&◌, IfOk, map, not};
+ghost use Rattle.fork_call.specs.Opening.{with_token};
+ghost use Rattle.proxy_config.specs.Setup as proxy;
 ghost use Rattle.proxy_config.specs.Setup.{locations_of};
+ghost use Rattle.proxy_dispatch.specs.Admitting.{Opens};
+ghost use Rattle.proxy_dispatch.specs.SeenDecision.{seen_decision};
 ghost use Rattle.service_decisions.specs.SeenPlace.{seen_place};
-ghost use Rattle.service_decisions.specs.Targets.{gateway_contact, is_none_of, moment_at, or_standing, setup_for, setup_with, stands, token_for, with_token};
+ghost use Rattle.service_decisions.specs.Targets.{gateway_contact, is_none_of, moment_at, setup_for, setup_with, token_for};
 
 use crate::gateways::{contacts_of, targets_for};
 use crate::place::Place;
 use proxy_config::{BoundContact, DialogToken, Setup};
+use proxy_dispatch::Decision;
 use service_config::Gateway;
 use sip_build::opens_dialog;
 use sip_text::Message;
@@ -38,31 +43,39 @@ fn with_token<A: Allocator>(token: Option<DialogToken>, setup: Setup<A>) -> Setu
     }
 }
 
-/// Whether the setup as it stands leads to these contacts, and has this token: there is neither.
-fn stands(contacts: &[BoundContact<'_>], token: Option<DialogToken>) -> bool
-    ensures { result ≡ stands contacts.now token }
+/// A request is opened by the setup as it stands, with this token, if there is one.
+pub(crate) fn opens_standing<A: Allocator>(token: Option<DialogToken>) -> Decision<A>
+    ensures { (setup : proxy.Setup) → seen_decision setup result ≡ Opens (with_token token setup) }
 {
     match token {
-        None => contacts.is_empty(),
-        Some(_) => false,
+        None => Decision::Opens,
+        Some(token) => Decision::OpensWith(token),
     }
 }
 
-/// The setup of a moment with these contacts and this token; none where both are missing, so that the setup leads there as it stands.
+/// Whether these are none.
+fn is_none(contacts: &[BoundContact<'_>]) -> bool
+    ensures { result ≡ is_none_of contacts.now }
+{
+    contacts.is_empty()
+}
+
+/// A request is opened by the setup of a moment with these contacts, and by the setup as it stands where there are none, with this token,
+/// if there is one: so no setup has to be made for a token alone.
 fn setup_with<A: Allocator + Clone>(
     alloc: A,
     setup: &Setup<A>,
     place: &Place<A>,
     contacts: &[BoundContact<'_>],
     token: Option<DialogToken>,
-) -> Result<Option<Setup<A>>, AllocError>
-    ensures { IfOk result (λ moment. or_standing setup.now moment ≡ setup_with setup.now (seen_place place.now) contacts.now token) }
+) -> Result<Decision<A>, AllocError>
+    ensures { IfOk result (λ decision. seen_decision setup.now decision ≡ Opens (setup_with setup.now (seen_place place.now) contacts.now token)) }
 {
-    if stands(contacts, token) {
-        return Ok(None);
+    if is_none(contacts) {
+        return Ok(opens_standing(token));
     }
     let moment = moment_at(alloc, setup, place, contacts)?;
-    Ok(Some(with_token(token, moment)))
+    Ok(Decision::OpensBy(with_token(token, moment)))
 }
 
 /// The same by the gateways, for a user who has neither contacts nor locations.
@@ -73,9 +86,9 @@ fn setup_by_gateways<A: Allocator + Clone, B: Allocator + Clone>(
     place: &Place<A>,
     user: &[u8],
     token: Option<DialogToken>,
-) -> Result<Option<Setup<A>>, AllocError>
-    ensures { IfOk result (λ moment. or_standing setup.now moment
-        ≡ setup_with setup.now (seen_place place.now) (map (gateway_contact user.now) gateways.now) token) }
+) -> Result<Decision<A>, AllocError>
+    ensures { IfOk result (λ decision. seen_decision setup.now decision
+        ≡ Opens (setup_with setup.now (seen_place place.now) (map (gateway_contact user.now) gateways.now) token)) }
 {
     let targets = targets_for(&alloc, gateways, user)?;
     let contacts = contacts_of(alloc.clone()?, &targets)?;
@@ -105,16 +118,19 @@ fn is_by_gateways<A: Allocator + Clone>(
 }
 
 /// The token of the dialog that a request opens.
-fn token_for<A: Allocator>(token: Option<DialogToken>, request: &Message<A>) -> Option<DialogToken>
+pub(crate) fn token_for<A: Allocator>(
+    token: Option<DialogToken>,
+    request: &Message<A>,
+) -> Option<DialogToken>
     ensures { result ≡ token_for token request.now }
 {
     if opens_dialog(request) { token } else { None }
 }
 
-/// The setup by which a request is opened: for a user of the domain, to his locations and these contacts of his, or, where he has neither
+/// By which setup a request is opened: for a user of the domain, to his locations and these contacts of his, or, where he has neither
 /// and gateways may be used for him, to the gateways; for another URI, to those of the contacts that have its key, by their hops; and with
-/// the token, if there is one, where the request opens a dialog. It is none where the setup as it stands leads there (RFC 3261 sections 10,
-/// 16.5 and 16.6).
+/// the token, if there is one, where the request opens a dialog. It is the one that stands where there is neither a contact nor a gateway
+/// to lead to (RFC 3261 sections 10, 16.5 and 16.6).
 ///
 /// # Errors
 ///
@@ -128,9 +144,9 @@ pub fn setup_for<A: Allocator + Clone, B: Allocator + Clone>(
     contacts: &[BoundContact<'_>],
     token: Option<DialogToken>,
     request: &Message<A>,
-) -> Result<Option<Setup<A>>, AllocError>
-    ensures { IfOk result (λ moment. or_standing setup.now moment
-        ≡ setup_for setup.now gateways.now by_gateways (seen_place place.now) contacts.now token request.now) }
+) -> Result<Decision<A>, AllocError>
+    ensures { IfOk result (λ decision. seen_decision setup.now decision
+        ≡ Opens (setup_for setup.now gateways.now by_gateways (seen_place place.now) contacts.now token request.now)) }
 {
     let token = token_for(token, request);
     match place {

@@ -10,14 +10,14 @@ ghost use Rattle.proxy_config.specs.Setup as proxy;
 ghost use Rattle.proxy_dispatch.specs.Admitting as dispatch;
 ghost use Rattle.proxy_dispatch.specs.SeenDecision.{seen_decision};
 ghost use Rattle.service_decisions.specs.SeenPlace.{seen_place};
-ghost use Rattle.service_decisions.specs.Targets.{OfUser, is_none_of, or_standing, place_of};
+ghost use Rattle.service_decisions.specs.Targets.{OfUser, is_none_of, place_of};
 ghost use Rattle.service_decisions.specs.SeenServing.{serving_of};
 ghost use Rattle.service_decisions.specs.Served.{IsDomainOf, IsOpenedBy, IsPlain, IsServed, IsServedBy, admission_of, arrival_of, by_gateways, goes_unasked, has_place_at, may_be_abroad, may_go, opened_at, opened_by, user_at};
 ghost use Rattle.service_decisions.specs.Serving.{realm_at};
 
 use crate::contacts::contacts_of;
 use crate::gateways::may_use_gateways;
-use crate::moment::{has_location, setup_for};
+use crate::moment::{has_location, opens_standing, setup_for, token_for};
 use crate::place::{Place, place_of};
 use authentication::{
     Arrival, CallAdmission, Decision as SenderDecision, Domain, RealmSecrets, Rule, decision_of,
@@ -101,16 +101,6 @@ fn counts(trusted: bool, serves_strangers: bool) -> bool
     !trusted && serves_strangers
 }
 
-/// A request is opened by the setup of the moment, or by the one that stands.
-fn opens<A: Allocator>(moment: Option<Setup<A>>) -> Decision<A>
-    ensures { (setup : proxy.Setup) → seen_decision setup result ≡ dispatch.Opens (or_standing setup moment) }
-{
-    match moment {
-        None => Decision::Opens,
-        Some(moment) => Decision::OpensBy(moment),
-    }
-}
-
 impl<'a, A: Allocator + Clone> ServiceView<'a, A> {
     /// The realm that credentials are asked for, where there is one and there are users.
     pub(crate) fn realm(&self) -> Option<RealmSecrets<'a, A>>
@@ -153,12 +143,7 @@ impl<'a, A: Allocator + Clone> ServiceView<'a, A> {
     }
 
     /// The bindings of a user that are there. Where nothing was ever bound, no lock is taken.
-    fn held<R: Wait>(
-        &self,
-        rt: &R,
-        alloc: &A,
-        user: &[u8],
-    ) -> Result<UserBindings<A>, AllocError>
+    fn held<R: Wait>(&self, rt: &R, alloc: &A, user: &[u8]) -> Result<UserBindings<A>, AllocError>
         ensures { IfOk result (λ copies. (held : List Binding) × (copies ≡ there self.now.moment held)) }
     {
         if !self.has_bindings {
@@ -167,12 +152,12 @@ impl<'a, A: Allocator + Clone> ServiceView<'a, A> {
         self.bindings.there(rt, user, self.moment)
     }
 
-    /// Whether each request that is opened is opened by the setup as it stands: nothing is bound, there is no gateway, and no dialog gets a
-    /// token.
+    /// Whether each request that is opened is opened by the setup as it stands, with the token of its dialog: nothing is bound, and there is
+    /// no gateway.
     fn is_plain(&self) -> bool
         ensures { IsTrue result → IsPlain (serving_of self.now) }
     {
-        !self.has_bindings && self.settings.gateways().is_empty() && self.token().is_none()
+        !self.has_bindings && self.settings.gateways().is_empty()
     }
 
     /// Whether a user has a location, or a binding that is there.
@@ -286,14 +271,22 @@ impl<'a, A: Allocator + Clone> ServiceView<'a, A> {
         }
     }
 
-    /// Whether the gateways may be used for a request that is opened by this rule, came from there, and is for a place.
+    /// Whether there are gateways.
+    fn has_gateways(&self) -> bool
+        ensures { result ≡ not (is_none_of (serving_of self.now).settings.gateways) }
+    {
+        !self.settings.gateways().is_empty()
+    }
+
+    /// Whether there are gateways, and they may be used for a request that is opened by this rule, came from there, and is for a place.
     fn by_gateways(&self, rule: Rule, source: Hop, place: &Place<A>) -> bool
         ensures { result ≡ by_gateways (serving_of self.now) rule source (seen_place place.now) }
     {
-        may_use_gateways(self.settings, rule, source) && self.may_be_abroad(place)
+        self.has_gateways()
+            && (may_use_gateways(self.settings, rule, source) && self.may_be_abroad(place))
     }
 
-    /// The setup by which a request is opened that is for this place; none where the one that stands leads there.
+    /// By which setup a request is opened that is for this place.
     fn opened_at<R: Wait>(
         &self,
         rt: &R,
@@ -303,14 +296,14 @@ impl<'a, A: Allocator + Clone> ServiceView<'a, A> {
         request: &Message<A>,
         source: Hop,
         place: &Place<A>,
-    ) -> Result<Option<Setup<A>>, AllocError>
-        ensures { IfOk result (λ moment. (held : List Binding)
-            × (or_standing setup.now moment ≡ opened_at (serving_of self.now) setup.now rule request.now source (seen_place place.now) held)) }
+    ) -> Result<Decision<A>, AllocError>
+        ensures { IfOk result (λ decision. (held : List Binding) × (seen_decision setup.now decision
+            ≡ dispatch.Opens (opened_at (serving_of self.now) setup.now rule request.now source (seen_place place.now) held))) }
     {
         let held = self.held(rt, alloc, user_at(place).unwrap_or(b""))?;
         let contacts = contacts_of(alloc.clone()?, &held, self.moment)?;
         let by_gateways = self.by_gateways(rule, source, place);
-        let moment = setup_for(
+        let decision = setup_for(
             alloc.clone()?,
             setup,
             self.settings.gateways(),
@@ -320,7 +313,7 @@ impl<'a, A: Allocator + Clone> ServiceView<'a, A> {
             self.token(),
             request,
         )?;
-        Ok(moment)
+        Ok(decision)
     }
 
     /// What becomes of a request that is opened by this rule.
@@ -336,11 +329,11 @@ impl<'a, A: Allocator + Clone> ServiceView<'a, A> {
         ensures { IfOk result (λ decision. (held : List Binding) × (seen_decision setup.now decision ≡ dispatch.Opens (opened_by (serving_of self.now) setup.now rule request.now source held))) }
     {
         if self.is_plain() {
-            return Ok(Decision::Opens);
+            return Ok(opens_standing(token_for(self.token(), request)));
         }
         let place = place_of(alloc.clone()?, setup, rule, request)?;
-        let moment = self.opened_at(rt, alloc, setup, rule, request, source, &place)?;
-        Ok(opens(moment))
+        let decision = self.opened_at(rt, alloc, setup, rule, request, source, &place)?;
+        Ok(decision)
     }
 
     /// What becomes of a request that is opened by this rule, or goes no further by it.

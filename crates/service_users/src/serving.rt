@@ -97,7 +97,7 @@ impl<A: Allocator + Copy> ServedAt<'_, A> {
                 self.counts.turn(answer.status().code());
             }
             Decision::Answers(_) | Decision::Leaves => self.counts.refused.add(1),
-            Decision::Opens | Decision::OpensBy(_) => {}
+            Decision::Opens | Decision::OpensWith(_) | Decision::OpensBy(_) => {}
         }
     }
 

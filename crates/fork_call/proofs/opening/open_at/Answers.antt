@@ -1,6 +1,7 @@
 use Rattle.fork_call.proofs.OpeningCommon.{◌≡◌, ◌∙◌, [], true, List, subst, sym, list_all, option_map, CandidateTarget, has_hop, IsBegun}
 use Rattle.std.proofs.Common.{rules}
-use Rattle.fork_call.proofs.OpenedCalls.{fixed_so, reaches, some_if}
+use Rattle.fork_call.proofs.OpenedCalls.{some_if}
+use Rattle.fork_call.proofs.laws.WithToken.{fixed_with, reaches_with}
 use Rattle.proxy_routing.specs.Targets.{is_domain}
 use Rattle.fork_call.proofs.Distinct.{distinct}
 use Rattle.fork_call.specs.inner.Distinct.{AreDistinct}
@@ -18,11 +19,11 @@ returns-in-Ok-clause-opened g c =
     let some : c.in_ok-candidates.candidates.items ≡ [] → ⊥ = some_if _ c.deref.result.now _ c.is_empty.result c.is_empty.ensures c.if-is_empty.false c.deref.ensures.value c.deref.ensures.len in
     let hops : list_all has_hop c.deref.result.now ≡ true = let a = c.have_hops.ensures in let b = c.if-not-have_hops.false in cc in
     let inside : c.is_responsible_for-inside.result ≡ is_domain c.args.setup.now c.args.uri.now = c.is_responsible_for-inside.ensures in
-    let opened = fixed_so c.args.setup.now 0 request c.args.opening.source c.args.uri.now c.own.result c.instance.result c.args.caller
+    let opened = fixed_with c.args.token c.args.setup.now 0 request c.args.opening.source c.args.uri.now c.own.result c.instance.result c.args.caller
     c.hop_if_any.result c.is_responsible_for-inside.result c.has_streams-streams.result (option_map (λ v. v.items) c.in_ok-record_route.record_route) c.tried_by.result c.stamps.result c.gives_reasons.result c.ring.result c.first_route-route.result c.new-opened.result c.new-opened.ensures c.own.ensures.value c.instance.ensures c.requires.caller
     c.hop_if_any.ensures c.first_route-route.ensures inside c.tried_by.ensures c.has_streams-streams.ensures c.in_ok-record_route.ensures.value c.stamps.ensures c.gives_reasons.ensures c.ring.ensures in
     let P : List CandidateTarget → Type 0 = λ cs. list_all has_hop cs ≡ true in
     let B : List CandidateTarget → Type 0 = λ cs. IsBegun c.rules.result c.new-opened.result cs c.in-Ok.state in
-    reaches c.args.setup.now 0 request c.args.opening.source c.args.uri.now c.rules.result c.is_responsible_for-inside.result c.first_route-route.result c.new-opened.result
+    reaches_with c.args.token c.args.setup.now 0 request c.args.opening.source c.args.uri.now c.rules.result c.is_responsible_for-inside.result c.first_route-route.result c.new-opened.result
     c.in_ok-candidates.candidates.items c.in-Ok.state c.in_ok-candidates.ensures inside some (subst P c.deref.ensures.value hops) c.rules.ensures
     c.first_route-route.ensures opened (subst B c.deref-2.ensures.value c.in-Ok.ensures)

@@ -1,9 +1,10 @@
-use Rattle.proxy_dispatch.proofs.Common.{◌≡◌, ◌∙◌, ap, inl, refl, sym, IfOk-weaker, seen_sent}
+use Rattle.proxy_dispatch.proofs.Common.{◌≡◌, ◌∙◌, Some, ap, inl, refl, sym, IfOk-weaker, seen_sent}
 use Rattle.std.proofs.lemmas.Bool.{false≢true}
+use Rattle.fork_call.specs.Opening.{with_token}
 use Rattle.proxy_dispatch.specs.Admitting.{Answers, Leaves, Opens}
 use Rattle.proxy_dispatch.specs.Passing.{HasOwnTag}
 use Rattle.proxy_dispatch.specs.SeenDecision.{seen_decision}
-use Rattle.proxy_dispatch.proofs.Becoming.{ack_at}
+use Rattle.proxy_dispatch.proofs.Becoming.{ack_at, ack_with}
 use Rattle.proxy_dispatch.proofs.acks.acknowledged.Goals as goal
 
 pub going-requires-clause-other : goal.going-requires-clause-other
@@ -22,6 +23,18 @@ returns-in-Opens g c =
     (λ outcome h. ack_at serving c.args.setup.now r.message r.source r.now outcome.handled (seen_sent outcome.datagram) decision (Opens c.args.setup.now) own c.in_ok-decision.ensures
     (ap (seen_decision c.args.setup.now) c.in-Opens.is) h)
     c.going.ensures
+
+pub returns-in-OpensWith : goal.returns-in-OpensWith
+returns-in-OpensWith g c =
+    let serving = g.N.Admission.serving c.args.admission.now in
+    let r = c.args.received in
+    let token = c.in-OpensWith.field-0 in
+    let decision = seen_decision c.args.setup.now c.in_ok-decision.decision in
+    let own : HasOwnTag r.message → ⊥ = λ h. false≢true (sym c.if-has_own_tag.false ∙ c.has_own_tag.ensures.1 h) in
+    IfOk-weaker c.going-in-OpensWith.result _ _
+    (λ outcome h. ack_at serving c.args.setup.now r.message r.source r.now outcome.handled (seen_sent outcome.datagram) decision (Opens (with_token (Some token) c.args.setup.now)) own c.in_ok-decision.ensures
+    (ap (seen_decision c.args.setup.now) c.in-OpensWith.is) (ack_with token c.args.setup.now r.message r.source outcome.handled (seen_sent outcome.datagram) h))
+    c.going-in-OpensWith.ensures
 
 pub returns-in-OpensBy : goal.returns-in-OpensBy
 returns-in-OpensBy g c =

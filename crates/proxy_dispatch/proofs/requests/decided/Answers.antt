@@ -1,4 +1,5 @@
-use Rattle.proxy_dispatch.proofs.Common.{[], ap, refl, IfOk-weaker, seen_sent}
+use Rattle.proxy_dispatch.proofs.Common.{[], Some, ap, refl, IfOk-weaker, seen_sent}
+use Rattle.fork_call.specs.Opening.{with_token}
 use Rattle.proxy_dispatch.specs.Admitting.{Answers, Leaves, Opens}
 use Rattle.proxy_dispatch.specs.SeenDecision.{seen_decision}
 use Rattle.proxy_dispatch.proofs.Becoming.{decided_at}
@@ -15,6 +16,18 @@ returns-in-Opens g c =
           (ap (seen_decision c.args.setup.now) c.in-Opens.is) h.2,
     ))
     c.opened_by.ensures
+
+pub returns-in-OpensWith : goal.returns-in-OpensWith
+returns-in-OpensWith g c =
+    let o = c.args.opening in
+    IfOk-weaker c.opened_by-in-OpensWith.result _ _
+    (λ outcome h. (
+      h.0,
+      h.1,
+      decided_at c.args.setup.now o.request o.source o.now c.args.key.items h.0 outcome.handled (seen_sent outcome.datagram) (seen_decision c.args.setup.now c.args.decision) (Opens (with_token (Some c.in-OpensWith.token) c.args.setup.now))
+          (ap (seen_decision c.args.setup.now) c.in-OpensWith.is) h.2,
+    ))
+    c.opened_by-in-OpensWith.ensures
 
 pub returns-in-OpensBy : goal.returns-in-OpensBy
 returns-in-OpensBy g c =

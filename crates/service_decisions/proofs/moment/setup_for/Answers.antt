@@ -7,6 +7,7 @@ use Rattle.proxy_config.specs.declared.dialog_token.DialogToken.{DialogToken}
 use Rattle.proxy_config.specs.Moment.{BoundContact}
 use Rattle.proxy_config.specs.Setup.{Setup, locations_of}
 use Rattle.service_config.specs.Settings.{Gateway}
+use Rattle.proxy_dispatch.specs.Admitting.{Opens}
 use Rattle.service_decisions.specs.SeenPlace.{seen_place}
 use Rattle.service_decisions.specs.Targets.{OfUser, Place, contacts_or_gateways, gateway_contact, is_none_of, reached_at, setup_for, setup_with, token_for}
 use Rattle.service_decisions.proofs.moment.setup_for.Goals as goal
@@ -45,8 +46,8 @@ returns-then-is_by_gateways g c =
     let reached = ap (λ (u : List ℕ). map (gateway_contact u) c.args.gateways.now) c.deref-then-is_by_gateways.ensures.value
     ∙ gateways_alone c.args.setup.now c.args.gateways.now c.args.by_gateways user c.args.contacts.now is in
     IfOk-weaker c.setup_by_gateways.result _ _
-    (λ moment made. made ∙ reached_so c.args.setup.now c.args.gateways.now c.args.by_gateways (seen_place c.args.place.now) user c.args.contacts.now _ c.args.token c.token_for-token.result c.args.request.now
-    (ap seen_place c.in-OfUser.is) reached c.token_for-token.ensures)
+    (λ decision made. made ∙ ap Opens (reached_so c.args.setup.now c.args.gateways.now c.args.by_gateways (seen_place c.args.place.now) user c.args.contacts.now _ c.args.token c.token_for-token.result c.args.request.now
+    (ap seen_place c.in-OfUser.is) reached c.token_for-token.ensures))
     c.setup_by_gateways.ensures
 
 pub returns-else-is_by_gateways : goal.returns-else-is_by_gateways
@@ -55,6 +56,6 @@ returns-else-is_by_gateways g c =
     let is = is_so c.args.setup.now c.args.by_gateways user c.deref.result.now c.args.contacts.now c.is_by_gateways.result false c.deref.ensures.value c.is_by_gateways.ensures c.if-is_by_gateways.false in
     let reached = contacts_alone c.args.setup.now c.args.gateways.now c.args.by_gateways user c.args.contacts.now is in
     IfOk-weaker c.setup_with.result _ _
-    (λ moment made. made ∙ reached_so c.args.setup.now c.args.gateways.now c.args.by_gateways (seen_place c.args.place.now) user c.args.contacts.now _ c.args.token c.token_for-token.result c.args.request.now
-    (ap seen_place c.in-OfUser.is) reached c.token_for-token.ensures)
+    (λ decision made. made ∙ ap Opens (reached_so c.args.setup.now c.args.gateways.now c.args.by_gateways (seen_place c.args.place.now) user c.args.contacts.now _ c.args.token c.token_for-token.result c.args.request.now
+    (ap seen_place c.in-OfUser.is) reached c.token_for-token.ensures))
     c.setup_with.ensures
