@@ -136,6 +136,7 @@ fn a_configuration_is_checked(rt: HostRuntime) {
         own_port: false,
         most_per_source: None,
         metrics: None,
+        connections: None,
     };
     let served = serve_text(&rt, rt.alloc(), MALFORMED, None, 1, options);
     holds(

@@ -46,6 +46,7 @@ const OPTIONS: Options<'static> = Options {
     own_port: true,
     most_per_source: None,
     metrics: None,
+    connections: None,
 };
 
 /// The lines with which the telephone registers, if it is bound by them.

@@ -1,6 +1,6 @@
 //! Tests of the public calls of `proxy_service` and `service_threads`. What a service does is played without sockets, by tables of
 //! moments (`played`), and refused memory (`refused`, `waiting`); what its sockets, threads and files add, by whole proxies (`living`, `wired`, `limited`, `ordering`, `registered`,
-//! `telephones`, `kept`).
+//! `telephones`, `kept`, `connecting`).
 #![tactic(auto)]
 
 #[cfg(test)]
@@ -13,6 +13,8 @@ mod answering;
 mod asking;
 #[cfg(test)]
 mod blocks;
+#[cfg(test)]
+mod connecting;
 #[cfg(test)]
 mod counting;
 #[cfg(test)]

@@ -102,6 +102,7 @@ const OPTIONS: Options<'static> = Options {
     own_port: false,
     most_per_source: Some(5),
     metrics: None,
+    connections: None,
 };
 
 /// How many datagrams come at once from each of two ports.

@@ -50,6 +50,7 @@ const OPTIONS: Options<'static> = Options {
     own_port: true,
     most_per_source: Some(1_000),
     metrics: Some(METRICS),
+    connections: None,
 };
 
 /// Where its counters are scraped.

@@ -34,6 +34,7 @@ const OPTIONS: Options<'static> = Options {
     own_port: true,
     most_per_source: None,
     metrics: None,
+    connections: None,
 };
 
 /// How many calls are cancelled, and how many are accepted.

@@ -109,6 +109,7 @@ pub fn service_over<A: Allocator + Copy>(
         number: NUMBER,
         records: served.records,
         own_port: served.own_port,
+        streams: false,
         most_calls: served.most_calls,
         most_bindings: 1_000,
         has_journal: served.has_journal,

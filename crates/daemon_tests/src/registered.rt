@@ -49,6 +49,7 @@ const OPTIONS: Options<'static> = Options {
     own_port: true,
     most_per_source: None,
     metrics: None,
+    connections: None,
 };
 
 /// A REGISTER of bob, whose telephone knows itself by a private address.

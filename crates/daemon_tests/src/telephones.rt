@@ -47,6 +47,7 @@ const OPTIONS: Options<'static> = Options {
     own_port: true,
     most_per_source: None,
     metrics: None,
+    connections: None,
 };
 
 // ---- parties

@@ -39,6 +39,7 @@ const OPTIONS: Options<'static> = Options {
     own_port: true,
     most_per_source: None,
     metrics: None,
+    connections: None,
 };
 
 /// The INVITEs of a call that both telephones let ring.

@@ -42,6 +42,7 @@ const OPTIONS: Options<'static> = Options {
     own_port: true,
     most_per_source: None,
     metrics: None,
+    connections: None,
 };
 
 /// A request of the caller.

@@ -5,7 +5,7 @@ use clap::{Arg, ArgAction, ArgMatches, Command, value_parser};
 use control_socket::tell;
 use metrics::PageSockets;
 use service_config::{UserLineFault, user_line};
-use service_files::{DaemonFault, Options, ProxyFiles};
+use service_files::{ConnectionOptions, DaemonFault, Options, ProxyFiles};
 use service_threads::{check_config, serve};
 use service_writers::ProxyStores;
 use std::alloc::{AllocError, Global};
@@ -41,6 +41,14 @@ const MOST_BINDINGS: u32 = 1_000_000;
 
 /// How many bytes of a password's line are read at most.
 const MOST_TYPED: usize = 4_096;
+
+/// How many connections there may be, in all and of one source address, where the words do not say.
+const MOST_CONNECTIONS: u32 = 10_000;
+
+const MOST_OF_SOURCE: u32 = 100;
+
+/// For how many seconds a connection may be silent where the words do not say: longer than any call is answered after (timer C: 181 seconds).
+const IDLE_SECONDS: u32 = 600;
 
 /// How many threads handle datagrams at least, and at most, where the words do not say how many.
 const FEWEST_WORKERS: usize = 2;
@@ -182,6 +190,36 @@ fn with_limits<'a>(alloc: Global, command: Command<'a>) -> Result<Command<'a>, A
         .arg(metrics)
 }
 
+/// The arguments that say how connections are served.
+fn with_connections<'a>(alloc: Global, command: Command<'a>) -> Result<Command<'a>, AllocError> {
+    let no_tcp = Arg::new(alloc, "no-tcp")
+        .long("no-tcp")
+        .action(ArgAction::SetTrue)
+        .help("serves over UDP alone, and takes no connection");
+    let most = Arg::new(alloc, "most-connections")
+        .long("most-connections")
+        .value_name("N")
+        .value_parser(value_parser!(u32).range(1..))
+        .help("how many connections there are at most: 10000 if left out");
+    let most_per_source = Arg::new(alloc, "most-connections-per-source")
+        .long("most-connections-per-source")
+        .value_name("N")
+        .value_parser(value_parser!(u32).range(1..))
+        .help("how many connections one source address may have opened: 100 if left out");
+    let idle = Arg::new(alloc, "idle-seconds")
+        .long("idle-seconds")
+        .value_name("N")
+        .value_parser(value_parser!(u32).range(200..))
+        .help(
+            "for how many seconds nothing may come by a connection, and nothing be written to it, before it is closed: 600 if left out",
+        );
+    command
+        .arg(no_tcp)?
+        .arg(most)?
+        .arg(most_per_source)?
+        .arg(idle)
+}
+
 /// The command line.
 fn command_line<'a>(alloc: Global) -> Result<Command<'a>, AllocError> {
     let command = Command::new(alloc, "forkproxyd")
@@ -189,6 +227,7 @@ fn command_line<'a>(alloc: Global) -> Result<Command<'a>, AllocError> {
         .about("a forking SIP proxy that serves until it is told to stop");
     let command = with_files(alloc, command)?;
     let command = with_limits(alloc, command)?;
+    let command = with_connections(alloc, command)?;
     command
         .subcommand(tell_command(alloc)?)?
         .subcommand(user_command(alloc)?)
@@ -328,6 +367,24 @@ fn printed_user(rt: &HostRuntime, matches: &ArgMatches<'_>) -> u8 {
     }
 }
 
+/// The connections that the words say; None where there are to be none.
+fn connections_of(matches: &ArgMatches<'_>) -> Option<ConnectionOptions> {
+    if matches.get_flag("no-tcp") {
+        return None;
+    }
+    Some(ConnectionOptions {
+        most: matches
+            .get_one::<u32>("most-connections")
+            .unwrap_or(MOST_CONNECTIONS),
+        most_per_source: matches
+            .get_one::<u32>("most-connections-per-source")
+            .unwrap_or(MOST_OF_SOURCE),
+        idle_seconds: matches
+            .get_one::<u32>("idle-seconds")
+            .unwrap_or(IDLE_SECONDS),
+    })
+}
+
 /// Serves as the words say.
 fn served<
     R: Threads
@@ -370,6 +427,7 @@ fn served<
         own_port: matches.get_flag("own-port"),
         most_per_source: matches.get_one::<u32>("most-per-source"),
         metrics: matches.get_str("metrics"),
+        connections: connections_of(matches),
     };
     ended(rt, serve(handle, rt.alloc(), options))
 }

@@ -5,6 +5,7 @@ use crate::datagram_counts::DatagramCounts;
 use crate::durations::Durations;
 use crate::metric::append_metrics;
 use crate::sender_counts::SenderCounts;
+use crate::stream_counts::StreamCounts;
 use std::alloc::{AllocError, Global};
 
 /// What a proxy counts. Who counts does nothing but additions.
@@ -13,6 +14,7 @@ pub struct Counts {
     pub calls: CallCounts,
     pub datagrams: DatagramCounts,
     pub senders: SenderCounts,
+    pub streams: StreamCounts,
     /// How long datagrams took to be handled.
     pub latencies: Durations,
     /// How long it took to keep changes of bindings elsewhere, all that waited at once.
@@ -47,6 +49,7 @@ impl Counts {
             calls: CallCounts::new(),
             datagrams: DatagramCounts::new(),
             senders: SenderCounts::new(),
+            streams: StreamCounts::new(),
             latencies: Durations::new(),
             commits: Durations::new(),
         }
@@ -70,6 +73,7 @@ impl Counts {
         self.calls.append(&mut text)?;
         self.datagrams.append(&mut text)?;
         self.senders.append(&mut text)?;
+        self.streams.append(&mut text)?;
         self.latencies
             .append(&mut text, b"forkproxy_handling_seconds")?;
         self.commits.append(&mut text, b"forkproxy_store_seconds")?;

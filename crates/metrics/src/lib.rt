@@ -15,6 +15,7 @@ mod page;
 mod page_sockets;
 mod scraper;
 mod sender_counts;
+mod stream_counts;
 
 pub use answering::{MetricsSource, answer_scrapers};
 pub use call_counts::{CallCounts, FailedCounts};
@@ -28,3 +29,4 @@ pub use metric::{Metric, MetricKind, append_metrics};
 pub use page::{Page, PageKind, page_kind};
 pub use page_sockets::PageSockets;
 pub use sender_counts::{RegistrationCounts, SenderCounts};
+pub use stream_counts::StreamCounts;

@@ -23,8 +23,12 @@ by_port_if own_port settings = if own_port then record settings { setup = record
 abbrev pub recording_if : (records : Bool) → Settings → Settings
 recording_if records settings = if records then record settings { setup = record settings.setup { records = true } } else settings
 
+-- a hop may be over a connection
+abbrev pub streams_if : (streams : Bool) → Settings → Settings
+streams_if streams settings = if streams then record settings { setup = record settings.setup { streams = true } } else settings
+
 abbrev pub by_terms : RunSettings → Settings → Settings
-by_terms terms settings = recording_if terms.records (by_port_if terms.own_port (of_service settings))
+by_terms terms settings = streams_if terms.streams (recording_if terms.records (by_port_if terms.own_port (of_service settings)))
 
 -- and, where there is a realm, as of_own_realm says
 abbrev pub service_settings : RunSettings → Settings → Settings

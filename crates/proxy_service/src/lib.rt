@@ -13,6 +13,7 @@ mod admission;
 mod answers;
 mod calls;
 mod carrying;
+mod failing;
 mod journal;
 mod leaving;
 mod notes;

@@ -1,7 +1,7 @@
 //! The configuration of a service.
 ghost use Rattle.std.specs.Prelude.{◌≡◌, ◌↔◌, IfErr, IfOk, IsTrue};
 ghost use Rattle.std.specs.Option.{option_copied};
-ghost use Rattle.proxy_service.specs.Setups.{IsOf, IsReloadFault, IsServiceConfigured, by_port_if, by_terms, recording_if, service_settings};
+ghost use Rattle.proxy_service.specs.Setups.{IsOf, IsReloadFault, IsServiceConfigured, by_port_if, by_terms, recording_if, service_settings, streams_if};
 
 use crate::terms::RunSettings;
 use fork_call::Setup;
@@ -31,14 +31,26 @@ fn recording_if<A: Allocator>(settings: ServiceSettings<A>, records: bool) -> Se
     }
 }
 
+/// The settings with hops over connections, if there are any.
+fn streams_if<A: Allocator>(settings: ServiceSettings<A>, streams: bool) -> ServiceSettings<A>
+    ensures { result ≡ streams_if streams settings }
+{
+    if streams {
+        settings.with_streams()
+    } else {
+        settings
+    }
+}
+
 /// Settings as a service goes by them, but for the realm: all Route values at the front of a request that lead to the proxy are taken away;
-/// a 100 has the Timestamp of its request, and a CANCEL says why; the own address counts as the domain with the own port alone, and a
-/// request that opens a dialog has a Record-Route line, where the terms say so.
+/// a 100 has the Timestamp of its request, and a CANCEL says why; the own address counts as the domain with the own port alone, a request
+/// that opens a dialog has a Record-Route line, and requests may go by connections, where the terms say so.
 fn by_terms<A: Allocator>(settings: ServiceSettings<A>, terms: &RunSettings) -> ServiceSettings<A>
     ensures { result ≡ by_terms terms.now settings }
 {
     let settings = settings.for_a_service().stamping().giving_reasons();
-    recording_if(by_port_if(settings, terms.own_port), terms.records)
+    let settings = recording_if(by_port_if(settings, terms.own_port), terms.records);
+    streams_if(settings, terms.streams)
 }
 
 /// A configuration as a service goes by it. Where there is a realm, a request that opens a dialog has a Record-Route line, too, and

@@ -11,6 +11,8 @@ pub struct RunSettings {
     pub records: bool,
     /// Whether its own address counts as its domain with its own port alone.
     pub own_port: bool,
+    /// Whether requests may go by connections.
+    pub streams: bool,
     /// How many calls it keeps that requests outside of dialogs opened, at most.
     pub most_calls: u64,
     /// How many contacts may be bound to its users in all.

@@ -106,6 +106,7 @@ fn begun(
         number: 1,
         records: false,
         own_port: false,
+        streams: false,
         most_calls: 100,
         most_bindings,
         has_journal: false,

@@ -175,6 +175,14 @@ impl<A: Allocator> ServiceSettings<A> {
         self
     }
 
+    /// The same settings, with the setup of [`Setup::with_streams`].
+    pub fn with_streams(mut self) -> ServiceSettings<A>
+        ensures { result ≡ record self { setup = record self.setup { streams = true } } }
+    {
+        self.setup = self.setup.with_streams();
+        self
+    }
+
     /// The same settings, with the setup of [`Setup::giving_reasons`].
     pub fn giving_reasons(mut self) -> ServiceSettings<A>
         ensures { result ≡ record self { setup = record self.setup { reasons = true } } }

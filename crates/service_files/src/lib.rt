@@ -21,6 +21,6 @@ pub use files::ProxyFiles;
 pub use memory::{
     calls_within, group_limit, memory_total, most_calls_here, resident_bytes, resident_pages,
 };
-pub use options::Options;
+pub use options::{ConnectionOptions, Options};
 pub use queue::{Batch, JournalQueue};
 pub use setup::{Configuration, Identity, check_files, read_config, read_text, read_users};

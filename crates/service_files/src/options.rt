@@ -1,5 +1,16 @@
 //! How a proxy serves.
 
+/// How many connections a proxy has that serves over TCP, too, and how long one may be silent.
+#[derive(Clone, Copy)]
+pub struct ConnectionOptions {
+    /// How many there are at most.
+    pub most: u32,
+    /// How many one source address may have opened.
+    pub most_per_source: u32,
+    /// For how many seconds nothing may come by one, and nothing be written to it.
+    pub idle_seconds: u32,
+}
+
 /// How a proxy serves, beside its configuration.
 #[derive(Clone, Copy)]
 pub struct Options<'a> {
@@ -28,4 +39,6 @@ pub struct Options<'a> {
     pub most_per_source: Option<u32>,
     /// The address and the port at which its counters are scraped.
     pub metrics: Option<&'a str>,
+    /// Its connections; None where it serves over UDP alone.
+    pub connections: Option<ConnectionOptions>,
 }

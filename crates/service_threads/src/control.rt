@@ -25,9 +25,10 @@ impl<'a, R: Wait + Clock + ProxyFiles> Control<'a, R> {
     /// Where it is not taken; then the one before stays.
     fn take_setup(&self) -> Result<(), DaemonFault> {
         let proxy = self.proxy;
-        let text = read_config(self.rt, proxy.alloc, proxy.paths.config.as_str())?;
-        let users = read_users(self.rt, proxy.alloc, proxy.paths.users.as_deref())?;
+        let text = read_config(self.rt, proxy.transport.alloc, proxy.paths.config.as_str())?;
+        let users = read_users(self.rt, proxy.transport.alloc, proxy.paths.users.as_deref())?;
         proxy
+            .transport
             .service
             .reload(self.rt, text.as_slice(), users.as_deref())
     }
@@ -39,21 +40,22 @@ impl<'a, R: Wait + Clock + ProxyFiles> Control<'a, R> {
     /// Want of memory for the text.
     fn text(&self) -> io::Result<Vec<u8>> {
         let proxy = self.proxy;
-        let resident = resident_bytes(self.rt, proxy.alloc);
-        let now = proxy.millis(self.rt);
-        Ok(proxy.service.stats(self.rt, now, resident)?)
+        let resident = resident_bytes(self.rt, proxy.transport.alloc);
+        let now = proxy.transport.millis(self.rt);
+        Ok(proxy.transport.service.stats(self.rt, now, resident)?)
     }
 }
 
 impl<'a, R: Wait + Clock + ProxyFiles> ControlHandler for Control<'a, R> {
     fn stop(&self, seconds: u64) {
         self.proxy
+            .transport
             .service
-            .drain(self.proxy.millis(self.rt), seconds);
+            .drain(self.proxy.transport.millis(self.rt), seconds);
     }
 
     fn reload(&self) -> Result<String<Global>, io::Error> {
-        let alloc = self.proxy.alloc;
+        let alloc = self.proxy.transport.alloc;
         match self.take_setup() {
             Ok(()) => Ok(format!(in alloc; "taken\n")?),
             Err(fault) => Ok(format!(in alloc; "refused: {fault}\n")?),
@@ -69,60 +71,62 @@ impl<'a, R: Wait + Clock + ProxyFiles> ControlHandler for Control<'a, R> {
 
     fn calls(&self, from: u64) -> Result<Vec<u8>, io::Error> {
         let proxy = self.proxy;
-        let mut text = Vec::new(proxy.alloc);
-        let now = proxy.millis(self.rt);
-        let calls = proxy.service.calls();
+        let mut text = Vec::new(proxy.transport.alloc);
+        let now = proxy.transport.millis(self.rt);
+        let calls = proxy.transport.service.calls();
         calls.append_calls(self.rt, from, now, &mut text)?;
         Ok(text)
     }
 
     fn call(&self, number: u64) -> Result<Vec<u8>, io::Error> {
         let proxy = self.proxy;
-        let mut text = Vec::new(proxy.alloc);
-        let now = proxy.millis(self.rt);
-        let calls = proxy.service.calls();
+        let mut text = Vec::new(proxy.transport.alloc);
+        let now = proxy.transport.millis(self.rt);
+        let calls = proxy.transport.service.calls();
         calls.append_call(self.rt, number, now, &mut text)?;
         Ok(text)
     }
 
     fn bindings(&self) -> Result<Vec<u8>, io::Error> {
         let proxy = self.proxy;
-        let mut text = Vec::new(proxy.alloc);
-        let now = proxy.millis(self.rt);
-        let registry = &proxy.service.users().registry;
+        let mut text = Vec::new(proxy.transport.alloc);
+        let now = proxy.transport.millis(self.rt);
+        let registry = &proxy.transport.service.users().registry;
         registry.append_bindings(self.rt, now, &mut text)?;
         Ok(text)
     }
 
     fn bindings_of(&self, user: &[u8]) -> Result<Vec<u8>, io::Error> {
         let proxy = self.proxy;
-        let mut text = Vec::new(proxy.alloc);
-        let now = proxy.millis(self.rt);
-        let registry = &proxy.service.users().registry;
+        let mut text = Vec::new(proxy.transport.alloc);
+        let now = proxy.transport.millis(self.rt);
+        let registry = &proxy.transport.service.users().registry;
         registry.append_bindings_of(self.rt, user, now, &mut text)?;
         Ok(text)
     }
 
     fn forget(&self, user: &[u8]) -> Result<Vec<u8>, io::Error> {
         let proxy = self.proxy;
-        let mut text = Vec::new(proxy.alloc);
-        let registry = &proxy.service.users().registry;
-        let keeping = proxy.service.users().kept_changes();
-        registry.forget_user(self.rt, proxy.alloc, keeping, user, &mut text)?;
+        let mut text = Vec::new(proxy.transport.alloc);
+        let users = proxy.transport.service.users();
+        let keeping = users.kept_changes();
+        users
+            .registry
+            .forget_user(self.rt, proxy.transport.alloc, keeping, user, &mut text)?;
         Ok(text)
     }
 
     fn refused(&self) -> Result<Vec<u8>, io::Error> {
         let proxy = self.proxy;
-        let mut text = Vec::new(proxy.alloc);
-        let now = proxy.millis(self.rt);
-        let last_refused = &proxy.service.users().last_refused;
+        let mut text = Vec::new(proxy.transport.alloc);
+        let now = proxy.transport.millis(self.rt);
+        let last_refused = &proxy.transport.service.users().last_refused;
         last_refused.append(self.rt, now, &mut text)?;
         Ok(text)
     }
 
     fn has_ended(&self) -> bool {
-        self.proxy.service.is_in(ServiceState::Ended)
+        self.proxy.transport.service.is_in(ServiceState::Ended)
     }
 }
 
@@ -132,6 +136,6 @@ impl<'a, R: Wait + Clock + ProxyFiles> MetricsSource for Control<'a, R> {
     }
 
     fn has_ended(&self) -> bool {
-        self.proxy.service.is_in(ServiceState::Ended)
+        self.proxy.transport.service.is_in(ServiceState::Ended)
     }
 }

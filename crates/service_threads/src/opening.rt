@@ -6,11 +6,13 @@ ghost use Rattle.service_threads.specs.Faults.{IsSystemFault};
 use crate::proxy::StartOptions;
 use metrics::PageSockets;
 use service_files::{
-    DaemonFault, Options, ProxyFiles, control_fault, journal_fault, metrics_fault, socket_fault,
+    ConnectionOptions, DaemonFault, Options, ProxyFiles, control_fault, journal_fault,
+    metrics_fault,
 };
+use service_transport::{BoundSockets, bound_all};
 use service_writers::{OpenedStore, ProxyStores, open_named};
 use sip_uri::Hop;
-use sockets::{Socket, SocketWaits, datagram_buffer};
+use sockets::datagram_buffer;
 use std::alloc::{AllocError, Global};
 use std::io::Eprint;
 use std::net::{Net, TcpListener};
@@ -24,14 +26,19 @@ pub(crate) struct Listeners {
     pub(crate) metrics: Option<TcpListener>,
 }
 
-/// Binds an address.
+/// Binds an address, over UDP and, if options say so, over TCP.
 #[tactic(auto, using(crate::proofs::Faults::socket_is_system))]
-pub(crate) fn bound<R: Net>(rt: &R, own: Hop) -> Result<Socket, DaemonFault>
+pub(crate) fn bound_sockets<R: Net>(
+    rt: &R,
+    alloc: Global,
+    own: Hop,
+    options: Option<ConnectionOptions>,
+) -> Result<BoundSockets, DaemonFault>
     ensures { IfErr result IsSystemFault }
 {
-    match Socket::bind(rt, own, SocketWaits::InCalls) {
-        Ok(socket) => Ok(socket),
-        Err(error) => Err(socket_fault(error)),
+    match bound_all(rt, alloc, own, options) {
+        Ok(bound) => Ok(bound),
+        Err(fault) => Err(fault),
     }
 }
 

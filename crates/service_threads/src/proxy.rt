@@ -1,12 +1,11 @@
 //! What the threads of a proxy share.
-use crate::receiving::Receiving;
-use call_table::{Epoch, ThreadClock};
+use call_table::Epoch;
 use proxy_service::{RunSettings, Service};
 use service_files::{Configuration, Identity, Options, ProxyFiles, most_calls_here};
+use service_transport::ServiceTransport;
 use service_writers::{JournalWriter, WarningWriter};
 use sip_uri::Hop;
 use std::alloc::{AllocError, Global};
-use std::time::Clock;
 
 /// The files of a proxy, beside its journal.
 #[derive(Drop)]
@@ -30,12 +29,7 @@ pub(crate) struct StartOptions<'a> {
 /// What the threads of a proxy share, beside its sockets.
 #[derive(Drop)]
 pub(crate) struct ServiceProxy {
-    pub(crate) alloc: Global,
-    pub(crate) service: Service,
-    /// The address that it receives at.
-    pub(crate) own: Hop,
-    pub(crate) epoch: Epoch,
-    pub(crate) receiving: Receiving,
+    pub(crate) transport: ServiceTransport,
     pub(crate) journal: JournalWriter,
     pub(crate) warnings: WarningWriter,
     pub(crate) paths: Paths,
@@ -71,6 +65,7 @@ fn terms_of<R: ProxyFiles>(
         number: start.number,
         records: options.records,
         own_port: options.own_port,
+        streams: options.connections.is_some(),
         most_calls: match options.most_calls {
             Some(most) => most,
             None => most_calls_here(rt, alloc),
@@ -97,24 +92,18 @@ impl ServiceProxy {
         own: Hop,
         epoch: Epoch,
     ) -> Result<ServiceProxy, AllocError> {
+        let options = start.options;
         let terms = terms_of(rt, alloc, start, &configuration);
-        let receiving = Receiving::new(alloc, start.options.most_per_source)?;
-        let journal = JournalWriter::new(alloc, start.options.journal)?;
-        let paths = paths_of(alloc, start.options)?;
+        let service = Service::new(alloc, alloc, configuration, terms)?;
+        let most = options.most_per_source;
+        let transport = ServiceTransport::new(alloc, service, own, epoch, most)?;
+        let journal = JournalWriter::new(alloc, options.journal)?;
+        let paths = paths_of(alloc, options)?;
         Ok(ServiceProxy {
-            alloc,
-            service: Service::new(alloc, alloc, configuration, terms)?,
-            own,
-            epoch,
-            receiving,
+            transport,
             journal,
             warnings: WarningWriter::new(),
             paths,
         })
-    }
-
-    /// Milliseconds since the beginning.
-    pub(crate) fn millis<R: Clock>(&self, rt: &R) -> u64 {
-        ThreadClock::new(self.epoch).micros(rt) / 1_000
     }
 }

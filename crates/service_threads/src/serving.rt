@@ -10,7 +10,7 @@ ghost use Rattle.service_threads.specs.Faults.{IsServeFault, IsServeFaultOf, IsS
 
 use crate::control::Control;
 use crate::crew::{ServerThreads, run};
-use crate::opening::{Listeners, bound, buffers_of, open_all, open_store};
+use crate::opening::{Listeners, bound_sockets, buffers_of, open_all, open_store};
 use crate::proxy::{ServiceProxy, StartOptions};
 use binding_table::{Keeper, KeptUser};
 use call_table::Epoch;
@@ -24,9 +24,10 @@ use service_files::{
     Configuration, DaemonFault, Options, ProxyFiles, check_files, read_config, read_text,
     read_users,
 };
+use service_transport::{BoundSockets, ProxySockets};
 use service_writers::{OpenedStore, ProxyStores, close_opened};
 use sip_uri::Hop;
-use sockets::{Socket, is_shared, print_listening};
+use sockets::{is_shared, print_listening};
 use std::alloc::Global;
 use std::io::{Eprint, Print};
 use std::net::Net;
@@ -35,6 +36,7 @@ use std::random::RandomSource;
 use std::sync::Wait;
 use std::thread::Threads;
 use std::time::{Clock, Duration, SystemTime};
+use stream_sockets::{ConnectionSockets, StreamFront};
 
 /// The descriptor of the standard output.
 const STANDARD_OUTPUT: i32 = 1;
@@ -56,26 +58,48 @@ fn can_print() -> bool {
     net::poll(&mut asked, 0) > 0
 }
 
-impl ServerThreads<Socket> for Server {
-    fn work<R: Wait + Clock>(
+impl ServerThreads<ProxySockets> for Server {
+    #[tactic(auto, using(crate::proofs::Faults::socket_is_system))]
+    fn work<R: Wait + ConnectionSockets + Clock>(
         &self,
         rt: &R,
-        socket: &Socket,
+        sockets: &ProxySockets,
         mut buffer: Vec<u8>,
     ) -> Result<(), DaemonFault> {
-        self.proxy.work(rt, socket, buffer.as_mut_slice())
+        self.proxy
+            .transport
+            .work(rt, sockets, buffer.as_mut_slice())
     }
 
-    fn keep<R: Wait + Clock, K: Keeper>(&self, rt: &R, socket: &Socket, keeper: &mut K) {
-        self.proxy.keep_changes(rt, socket, keeper);
+    fn keep<R: Wait + ConnectionSockets + Clock, K: Keeper>(
+        &self,
+        rt: &R,
+        sockets: &ProxySockets,
+        keeper: &mut K,
+    ) {
+        self.proxy.keep_changes(rt, sockets, keeper);
     }
 
-    fn keep_left<R: Wait + Clock, K: Keeper>(&self, rt: &R, socket: &Socket, keeper: &mut K) {
-        self.proxy.keep_left(rt, socket, keeper);
+    fn keep_left<R: Wait + ConnectionSockets + Clock, K: Keeper>(
+        &self,
+        rt: &R,
+        sockets: &ProxySockets,
+        keeper: &mut K,
+    ) {
+        self.proxy.keep_left(rt, sockets, keeper);
     }
 
-    fn keep_time<R: Wait + Clock>(&self, rt: &R, socket: &Socket) {
-        self.proxy.keep_time(rt, socket);
+    fn connect<R: Wait + ConnectionSockets + Clock>(
+        &self,
+        rt: &R,
+        sockets: &ProxySockets,
+        front: StreamFront,
+    ) {
+        self.proxy.transport.serve_connections(rt, sockets, front);
+    }
+
+    fn keep_time<R: Wait + ConnectionSockets + Clock>(&self, rt: &R, sockets: &ProxySockets) {
+        self.proxy.transport.keep_time(rt, sockets);
     }
 
     fn answer<R: Wait + ProxyFiles + Clock>(&self, rt: &R) {
@@ -83,7 +107,12 @@ impl ServerThreads<Socket> for Server {
             rt,
             proxy: &self.proxy,
         };
-        listen(rt, self.proxy.alloc, &control, &self.listeners.control);
+        listen(
+            rt,
+            self.proxy.transport.alloc,
+            &control,
+            &self.listeners.control,
+        );
     }
 
     fn show<R: Wait + ProxyFiles + Clock + PageSockets>(&self, rt: &R) {
@@ -92,24 +121,24 @@ impl ServerThreads<Socket> for Server {
             proxy: &self.proxy,
         };
         if let Some(listener) = &self.listeners.metrics {
-            answer_scrapers(rt, self.proxy.alloc, &control, listener);
+            answer_scrapers(rt, self.proxy.transport.alloc, &control, listener);
         }
     }
 
     fn write<R: Wait + ProxyFiles + Clock>(&self, rt: &R) {
-        self.proxy.journal.write(rt, &self.proxy.service);
+        self.proxy.journal.write(rt, &self.proxy.transport.service);
     }
 
     fn warn<R: Wait + Eprint>(&self, rt: &R) {
-        self.proxy.warnings.write(rt, &self.proxy.service);
+        self.proxy.warnings.write(rt, &self.proxy.transport.service);
     }
 
     fn end(&self) {
-        self.proxy.service.end();
+        self.proxy.transport.service.end();
     }
 
     fn finish<R: Wait + Clock>(&self, rt: &R) {
-        let service = &self.proxy.service;
+        let service = &self.proxy.transport.service;
         service.write_down_left(rt);
         self.proxy.journal.end(service.journal());
         self.proxy.warnings.end(&service.users().warnings);
@@ -120,7 +149,7 @@ impl ServerThreads<Socket> for Server {
 
     fn leave<R: Wait + ProxyFiles + Print>(&self, rt: &R) {
         rt.take_file_away(self.proxy.paths.control.as_str());
-        let calls = self.proxy.service.calls();
+        let calls = self.proxy.transport.service.calls();
         let opened = calls.opened(rt);
         let left = calls.held(rt);
         if can_print() {
@@ -140,29 +169,29 @@ fn server_is_shared(server: &Server)
     is_shared(server);
 }
 
-/// Where a proxy receives: its address, the socket there, and a buffer for each worker.
+/// Where a proxy receives: its address, the sockets there, and a buffer for each worker.
 #[derive(Drop)]
 struct Receivers {
     own: Hop,
-    socket: Socket,
+    bound: BoundSockets,
     buffers: Vec<Vec<u8>>,
 }
 
-/// Takes the address of a configuration, for so many workers.
+/// Takes the address of a configuration, over the transports and for so many workers as options say.
 fn receivers_of<R: Net>(
     rt: &R,
     alloc: Global,
     configuration: &Configuration,
-    workers: usize,
+    options: Options<'_>,
 ) -> Result<Receivers, DaemonFault>
     ensures { IfErr result IsSystemFault }
 {
     let own = own_of(configuration.settings.setup());
-    let socket = bound(rt, own)?;
-    match buffers_of(alloc, workers.max(1)) {
+    let bound = bound_sockets(rt, alloc, own, options.connections)?;
+    match buffers_of(alloc, options.workers.max(1)) {
         Ok(buffers) => Ok(Receivers {
             own,
-            socket,
+            bound,
             buffers,
         }),
         Err(_) => Err(DaemonFault::NoMemory),
@@ -171,7 +200,15 @@ fn receivers_of<R: Net>(
 
 /// Tells where the proxy listens, and lets it run until the end; changes of its bindings are kept meanwhile, if there is a keeper.
 fn run_server<
-    R: Threads + Wait + ProxyFiles + PageSockets + Clock + Print + Eprint + Sync,
+    R: Threads
+        + Wait
+        + ConnectionSockets
+        + ProxyFiles
+        + PageSockets
+        + Clock
+        + Print
+        + Eprint
+        + Sync,
     K: Keeper,
 >(rt: &R, server: &Server, receivers: Receivers, keeper: &mut Option<K>) -> Result<(), DaemonFault>
     ensures { IfErr result IsSystemFault }
@@ -179,11 +216,12 @@ fn run_server<
     server_is_shared(server);
     let Receivers {
         own,
-        socket,
+        bound,
         buffers,
     } = receivers;
     let _ = print_listening(rt, own);
-    run(rt, server.proxy.alloc, server, socket, buffers, keeper)
+    let alloc = server.proxy.transport.alloc;
+    run(rt, alloc, server, bound, buffers, keeper)
 }
 
 /// A proxy without a call at this address, with what is kept of its users, its control socket, the address for scrapers and the journal: what
@@ -204,7 +242,7 @@ fn server_of<R: Wait + Clock + ProxyFiles + PageSockets>(
     let Ok(proxy) = ServiceProxy::new(rt, alloc, start, configuration, own, epoch) else {
         return Err(DaemonFault::NoMemory);
     };
-    if proxy.service.users().restore(rt, users).is_err() {
+    if proxy.transport.service.users().restore(rt, users).is_err() {
         return Err(DaemonFault::NoMemory);
     }
     match open_all(rt, start.options) {
@@ -252,7 +290,16 @@ fn with_secret<'a>(start: StartOptions<'a>, secret: Option<[u8; 32]>) -> StartOp
 
 /// Serves as a configuration says, with what a store has, if there is one, which is closed at the end.
 fn serve_opened<
-    R: Threads + Wait + ProxyFiles + PageSockets + ProxyStores + Clock + Print + Eprint + Sync,
+    R: Threads
+        + Wait
+        + ConnectionSockets
+        + ProxyFiles
+        + PageSockets
+        + ProxyStores
+        + Clock
+        + Print
+        + Eprint
+        + Sync,
 >(
     rt: &R,
     alloc: Global,
@@ -301,7 +348,7 @@ fn serve_configuration<
 {
     let start = start_of(rt, options, number)?;
     tell_whom_it_serves(rt, &configuration.settings);
-    let receivers = receivers_of(rt, alloc, &configuration, start.options.workers)?;
+    let receivers = receivers_of(rt, alloc, &configuration, start.options)?;
     match open_store(rt, alloc, start) {
         Ok(opened) => serve_opened(rt, alloc, configuration, start, receivers, opened),
         Err(fault) => Err(fault),

@@ -14,6 +14,8 @@ use std::sync::{Mutex, Wait};
 #[derive(Drop)]
 pub(crate) struct Receiving {
     alloc: Global,
+    /// How many datagrams a source may send in a second, if there is a limit.
+    most: Option<u32>,
     /// Who has this lock receives. Under it stands what sources have sent, if there is a limit.
     pub(crate) limits: Mutex<Option<SourceLimits<Global>>>,
     /// Workers that are idle while another one receives.
@@ -36,10 +38,17 @@ impl Receiving {
         let groups = CallGroups::new(alloc)?;
         Ok(Receiving {
             alloc,
+            most,
             limits: Mutex::new(source_limits(alloc, most)),
             idle: IdleWorkers::new(),
             groups,
         })
+    }
+
+    /// What sources may send by connections, if there is a limit: nothing was sent yet. It is counted apart from what they send as datagrams,
+    /// as the thread that receives those has their counts while it waits.
+    pub(crate) fn own_limits(&self) -> Option<SourceLimits<Global>> {
+        source_limits(self.alloc, self.most)
     }
 
     /// Whether the group of this number is entered with a datagram; else it is another worker's, or is dropped and counted.

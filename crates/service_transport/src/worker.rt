@@ -1,10 +1,11 @@
 //! What a worker does with the datagrams that it receives, and with those that are handed over to it.
 ghost use Rattle.std.specs.Prelude.{◌≤◌, length, IfErr, IfOk, IfSome};
-ghost use Rattle.service_threads.specs.Faults.{IsSystemFault};
+ghost use Rattle.service_files.specs.Faults.{IsSocketFault};
 
-use crate::port::{ServicePort, service_port};
-use crate::proxy::ServiceProxy;
+use crate::listening::ProxySockets;
+use crate::port::ServicePort;
 use crate::receiving::Receiving;
+use crate::transport::ServiceTransport;
 use call_table::ThreadClock;
 use proxy_dispatch::Received;
 use proxy_service::Service;
@@ -12,11 +13,11 @@ use proxy_threads::{ReadyMemory, group_of};
 use service_admission::{ServiceState, SourceLimits, admits};
 use service_files::{DaemonFault, socket_fault};
 use sip_uri::Hop;
-use sockets::Socket;
 use std::alloc::Global;
 use std::hint::spin_loop;
 use std::sync::Wait;
 use std::time::Clock;
+use stream_sockets::ConnectionSockets;
 
 /// How often a worker looks whether another one still receives before it is idle. Together the looks take as long as a receive does where a
 /// datagram waits.
@@ -41,33 +42,53 @@ struct ClaimedDatagram {
 
 /// A worker: what it works for, and what it keeps from one datagram to the next.
 #[derive(Drop)]
-struct DatagramWorker<'a> {
+pub(crate) struct DatagramWorker<'a, R> {
     alloc: Global,
-    service: &'a Service,
+    pub(crate) service: &'a Service,
     receiving: &'a Receiving,
-    socket: &'a Socket,
-    port: ServicePort<'a>,
+    sockets: &'a ProxySockets,
+    pub(crate) port: ServicePort<'a, R>,
     watch: ThreadClock,
     ready: ReadyMemory,
 }
 
-impl<'a> DatagramWorker<'a> {
+impl<'a, R: Wait + ConnectionSockets + Clock> DatagramWorker<'a, R> {
     /// One that has handled nothing yet.
-    fn new(proxy: &'a ServiceProxy, socket: &'a Socket) -> DatagramWorker<'a> {
-        let counts = &proxy.service.counts().datagrams;
+    pub(crate) fn new(
+        rt: &'a R,
+        transport: &'a ServiceTransport,
+        sockets: &'a ProxySockets,
+    ) -> DatagramWorker<'a, R> {
         DatagramWorker {
-            alloc: proxy.alloc,
-            service: &proxy.service,
-            receiving: &proxy.receiving,
-            socket,
-            port: service_port(socket, counts, &counts.sent),
-            watch: ThreadClock::new(proxy.epoch),
+            alloc: transport.alloc,
+            service: &transport.service,
+            receiving: &transport.receiving,
+            sockets,
+            port: transport.answering_port(rt, sockets),
+            watch: ThreadClock::new(transport.epoch),
             ready: ReadyMemory::new(),
         }
     }
 
+    /// Milliseconds since the beginning.
+    pub(crate) fn millis(&mut self, rt: &R) -> u64 {
+        self.watch.micros(rt) / 1_000
+    }
+
+    /// Handles a message that came by a connection, and those that are handed over to its group of calls meanwhile; where another thread is
+    /// on the group the message is left to that one.
+    pub(crate) fn take_message(&mut self, rt: &R, bytes: &[u8], source: Hop) {
+        self.ready.hold(&self.alloc);
+        let group = group_of(bytes);
+        let counts = &self.service.counts().datagrams;
+        if self.receiving.enters(rt, counts, group, bytes, source) {
+            self.handle_timed(rt, bytes, source);
+            self.drain_group(rt, group);
+        }
+    }
+
     /// Handles a datagram, and notes how long that took. The moment is read as it begins.
-    fn handle_timed<R: Wait + Clock>(&mut self, rt: &R, bytes: &[u8], source: Hop) {
+    fn handle_timed(&mut self, rt: &R, bytes: &[u8], source: Hop) {
         let began = self.watch.micros(rt);
         let received = Received {
             bytes,
@@ -80,7 +101,7 @@ impl<'a> DatagramWorker<'a> {
     }
 
     /// Handles what was handed over meanwhile in a group that this worker is on, and leaves the group.
-    fn drain_group<R: Wait + Clock>(&mut self, rt: &R, group: Option<u8>) {
+    fn drain_group(&mut self, rt: &R, group: Option<u8>) {
         for _ in rt.forever() {
             match self.receiving.groups.next(rt, group) {
                 Some(packet) => self.handle_timed(rt, packet.bytes.as_slice(), packet.source),
@@ -91,7 +112,7 @@ impl<'a> DatagramWorker<'a> {
     }
 
     /// Handles a datagram whose group of calls this worker has entered, and those that are handed over to it meanwhile.
-    fn handle_claimed<R: Wait + Clock>(&mut self, rt: &R, buffer: &[u8], entered: ClaimedDatagram)
+    fn handle_claimed(&mut self, rt: &R, buffer: &[u8], entered: ClaimedDatagram)
         requires { entered.count ≤ length buffer.now }
     {
         self.ready.hold(&self.alloc);
@@ -100,7 +121,7 @@ impl<'a> DatagramWorker<'a> {
     }
 
     /// Counts a datagram that came, and says whether its source may send it now.
-    fn admits<R: Clock>(
+    pub(crate) fn admits(
         &mut self,
         rt: &R,
         limits: &mut Option<SourceLimits<Global>>,
@@ -120,17 +141,16 @@ impl<'a> DatagramWorker<'a> {
     /// # Errors
     ///
     /// `Socket` where the receive failed.
-    #[tactic(auto, using(crate::proofs::Faults::socket_is_system))]
-    fn receive<R: Wait + Clock>(
+    fn receive(
         &mut self,
         rt: &R,
         limits: &mut Option<SourceLimits<Global>>,
         buffer: &mut [u8],
     ) -> Result<Option<ClaimedDatagram>, DaemonFault>
         ensures fits { IfOk result (λ came. IfSome came (λ entered. entered.count ≤ length buffer.new)) }
-        ensures fault { IfErr result IsSystemFault }
+        ensures fault { IfErr result IsSocketFault }
     {
-        let came = match self.socket.receive(buffer) {
+        let came = match self.sockets.udp.receive(buffer) {
             Ok(came) => came,
             Err(error) => return Err(socket_fault(error)),
         };
@@ -161,13 +181,13 @@ impl<'a> DatagramWorker<'a> {
     /// # Errors
     ///
     /// `Socket` where a receive failed.
-    fn receive_or_wait<R: Wait + Clock>(
+    fn receive_or_wait(
         &mut self,
         rt: &R,
         buffer: &mut [u8],
     ) -> Result<Option<ClaimedDatagram>, DaemonFault>
         ensures fits { IfOk result (λ came. IfSome came (λ entered. entered.count ≤ length buffer.new)) }
-        ensures fault { IfErr result IsSystemFault }
+        ensures fault { IfErr result IsSocketFault }
     {
         let receiving = self.receiving;
         for _ in 0..LOOKS {
@@ -185,12 +205,8 @@ impl<'a> DatagramWorker<'a> {
     /// # Errors
     ///
     /// `Socket` where a receive failed.
-    fn work_until_end<R: Wait + Clock>(
-        &mut self,
-        rt: &R,
-        buffer: &mut [u8],
-    ) -> Result<(), DaemonFault>
-        ensures { IfErr result IsSystemFault }
+    fn work_until_end(&mut self, rt: &R, buffer: &mut [u8]) -> Result<(), DaemonFault>
+        ensures { IfErr result IsSocketFault }
     {
         for _ in rt.forever() {
             if self.service.is_in(ServiceState::Ended) {
@@ -198,7 +214,7 @@ impl<'a> DatagramWorker<'a> {
             }
             let came = self.receive_or_wait(rt, buffer)?;
             if let Some(entered) = came {
-                self.receiving.hand_over(self.socket);
+                self.receiving.hand_over(&self.sockets.udp);
                 self.handle_claimed(rt, buffer, entered);
             }
         }
@@ -206,21 +222,21 @@ impl<'a> DatagramWorker<'a> {
     }
 }
 
-impl ServiceProxy {
+impl ServiceTransport {
     /// Receives and handles datagrams until the end. Where a receive failed the proxy ends. Behind this worker the others leave.
     ///
     /// # Errors
     ///
     /// `Socket` where a receive failed.
-    pub(crate) fn work<R: Wait + Clock>(
+    pub fn work<R: Wait + ConnectionSockets + Clock>(
         &self,
         rt: &R,
-        socket: &Socket,
+        sockets: &ProxySockets,
         buffer: &mut [u8],
     ) -> Result<(), DaemonFault>
-        ensures { IfErr result IsSystemFault }
+        ensures { IfErr result IsSocketFault }
     {
-        let mut worker = DatagramWorker::new(self, socket);
+        let mut worker = DatagramWorker::new(rt, self, sockets);
         let ended = worker.work_until_end(rt, buffer);
         if ended.is_err() {
             self.service.end();
