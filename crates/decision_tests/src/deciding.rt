@@ -158,25 +158,11 @@ const ROWS: &[Row<'static>] = &[
         ELSEWHERE,
         EVE,
         CAROL,
-        Verdict::StandsWith,
+        Verdict::Targets(0, true),
     ),
     // to the gateway itself, and to a user without a binding, there is no further target
-    (
-        REALM,
-        GATEWAY,
-        ABROAD,
-        EVE,
-        CAROL,
-        Verdict::StandsWith,
-    ),
-    (
-        REALM,
-        INSIDE,
-        FOR_BOB,
-        EVE,
-        CAROL,
-        Verdict::StandsWith,
-    ),
+    (REALM, GATEWAY, ABROAD, EVE, CAROL, Verdict::StandsWith),
+    (REALM, INSIDE, FOR_BOB, EVE, CAROL, Verdict::StandsWith),
     // who says to be of the domain is asked for a password
     (REALM, OUTSIDE, ELSEWHERE, BOB, CAROL, Verdict::Status(407)),
     (REALM, OUTSIDE, FOR_CAROL, BOB, CAROL, Verdict::Status(407)),
