@@ -1,5 +1,5 @@
 -- Each fault of a part is one of the whole.
-use Rattle.std.specs.Prelude.{◌≤◌, ℕ, List, Option, Some, None, length}
+use Rattle.std.specs.Prelude.{◌≤◌, ℕ, List, Option, Some, None, Result, Ok, Err, IfErr, length}
 use Rattle.sip_digest.specs.declared.algorithm.Algorithms.{Algorithms}
 use Rattle.sip_digest.specs.declared.users.UserList.{UserList}
 use Rattle.service_files.specs.Configured.{AreUsers, IsConfigured, SpellsUsers, algorithms_in}
@@ -127,6 +127,10 @@ system_is_serve text users number (fault.Line n) fits spells is = absurd is
 system_is_serve text users number (fault.Users why) fits spells is = absurd is
 system_is_serve text users number fault.Random fits spells is = (fits, spells)
 system_is_serve text users number fault.Identity fits spells is = absurd is
+
+pub system_ends_serve : {V : Type 0} (text : List ℕ) (users : Option (List ℕ)) (number : ℕ) (r : Result V DaemonFault) → length text ≤ most_text → Spells text users number → IfErr r IsSystemFault → IfErr r (IsServeFaultOf text users number)
+system_ends_serve text users number (Ok v) fits spells is = tt
+system_ends_serve text users number (Err f) fits spells is = system_is_serve text users number f fits spells is
 
 pub configuration_is_serve : (f : DaemonFault) → IsConfigurationFault f → IsServeFault f
 configuration_is_serve fault.Unreadable is = tt

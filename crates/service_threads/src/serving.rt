@@ -379,7 +379,7 @@ pub fn check_config<R: ProxyFiles>(
 /// # Errors
 ///
 /// Those of [`serve`] but for `Unreadable`.
-#[tactic(auto, using(crate::proofs::Faults::configured_spells, crate::proofs::Faults::read_is_serve, crate::proofs::Faults::system_is_serve))]
+#[tactic(auto, using(crate::proofs::Faults::configured_spells, crate::proofs::Faults::read_is_serve, crate::proofs::Faults::system_ends_serve))]
 pub fn serve_text<
     R: Threads
         + Wait
