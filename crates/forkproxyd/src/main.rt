@@ -17,6 +17,7 @@ use std::sync::Wait;
 use std::thread::Threads;
 use std::time::{Clock, Duration};
 use std::{env, thread};
+use stream_sockets::ConnectionSockets;
 
 /// The exit status where the words ask for nothing.
 const USAGE: u8 = 2;
@@ -390,6 +391,7 @@ fn served<
     R: Threads
         + Wait
         + Net
+        + ConnectionSockets
         + ProxyFiles
         + PageSockets
         + ProxyStores
@@ -437,6 +439,7 @@ fn run<
     R: Threads
         + Wait
         + Net
+        + ConnectionSockets
         + ProxyFiles
         + PageSockets
         + ProxyStores

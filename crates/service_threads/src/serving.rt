@@ -329,6 +329,7 @@ fn serve_configuration<
     R: Threads
         + Wait
         + Net
+        + ConnectionSockets
         + ProxyFiles
         + PageSockets
         + ProxyStores
@@ -384,6 +385,7 @@ pub fn serve_text<
     R: Threads
         + Wait
         + Net
+        + ConnectionSockets
         + ProxyFiles
         + PageSockets
         + ProxyStores
@@ -449,6 +451,7 @@ pub fn serve<
     R: Threads
         + Wait
         + Net
+        + ConnectionSockets
         + ProxyFiles
         + PageSockets
         + ProxyStores
