@@ -1,0 +1,36 @@
+#compdef forkproxyd forkproxyd-run
+# Completion of forkproxyd and forkproxyd-run for zsh.
+local -a serving
+serving=(
+    '--config[the configuration]:file:_files'
+    '--journal[the file to which each call is written at its end]:file:_files'
+    '--most-calls[how many calls are kept at most]:number:'
+    '--workers[how many threads receive and handle datagrams]:number:'
+    '--record-route[stay on the path of dialogs]'
+    '--own-port[count the own address as the domain with the own port alone]'
+    '--most-per-source[how many datagrams one address may send at once, and each second]:number:'
+    '--metrics[where the counters are scraped]:address and port:'
+)
+if [[ $service == forkproxyd-run ]]; then
+    _arguments '1:control socket:_files' $serving
+elif [[ ${words[2]} == tell && $CURRENT -gt 2 ]]; then
+    local -a commands
+    commands=(
+        'stop:stop, once no call is open, after 30 seconds or the given ones at the latest'
+        'reload:read the configuration anew'
+        'stats:write the counters'
+        'calls:tell of the open calls, from a number on'
+        'call:tell of one call'
+    )
+    case $CURRENT in
+        3) _files ;;
+        4) _describe command commands ;;
+        5) _message number ;;
+    esac
+else
+    _arguments '1:command:(tell)' $serving \
+        '--control[the control socket]:file:_files' \
+        '(- *)--check-config[say whether a configuration is well-formed]:file:_files' \
+        '(- *)--help[print help]' \
+        '(- *)--version[print the version]'
+fi
