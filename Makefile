@@ -5,7 +5,6 @@
 #
 # DESTDIR is put before each path, PREFIX is /usr/local if left out; PROGRAM and TOOL say what is installed, if it is not in out/.
 PREFIX = /usr/local
-SYSCONFDIR = /etc
 BINDIR = $(PREFIX)/bin
 MANDIR = $(PREFIX)/share/man
 DOCDIR = $(PREFIX)/share/doc/forkproxyd
@@ -28,7 +27,7 @@ $(PROGRAM) $(TOOL):
 # A configuration that is there already stays as it is.
 install: $(PROGRAM)
 	$(INSTALL) -d $(DESTDIR)$(BINDIR) $(DESTDIR)$(MANDIR)/man5 $(DESTDIR)$(MANDIR)/man8 $(DESTDIR)$(DOCDIR) $(DESTDIR)$(UNITDIR) $(DESTDIR)$(BASHDIR) $(DESTDIR)$(ZSHDIR)
-	$(INSTALL) -d $(DESTDIR)$(SYSCONFDIR)/default $(DESTDIR)$(SYSCONFDIR)/logrotate.d
+	$(INSTALL) -d $(DESTDIR)/etc/default $(DESTDIR)/etc/logrotate.d
 	$(INSTALL) -m 755 $(PROGRAM) $(DESTDIR)$(BINDIR)/forkproxyd
 	$(INSTALL) -m 755 packaging/forkproxyd-run $(DESTDIR)$(BINDIR)/forkproxyd-run
 	sed 's|/usr/bin/|$(BINDIR)/|' packaging/forkproxyd.service > $(DESTDIR)$(UNITDIR)/forkproxyd.service
@@ -39,9 +38,9 @@ install: $(PROGRAM)
 	$(INSTALL) -m 644 packaging/completion/forkproxyd.bash $(DESTDIR)$(BASHDIR)/forkproxyd-run
 	$(INSTALL) -m 644 packaging/completion/forkproxyd.zsh $(DESTDIR)$(ZSHDIR)/_forkproxyd
 	$(INSTALL) -m 644 docs/SERVICE.md CHANGELOG.md THIRD-PARTY.md $(DESTDIR)$(DOCDIR)
-	$(INSTALL) -m 644 packaging/forkproxyd.logrotate $(DESTDIR)$(SYSCONFDIR)/logrotate.d/forkproxyd
-	[ -e $(DESTDIR)$(SYSCONFDIR)/default/forkproxyd ] || $(INSTALL) -m 644 packaging/forkproxyd.default $(DESTDIR)$(SYSCONFDIR)/default/forkproxyd
-	[ -e $(DESTDIR)$(SYSCONFDIR)/forkproxyd.conf ] || $(INSTALL) -m 644 packaging/forkproxyd.conf $(DESTDIR)$(SYSCONFDIR)/forkproxyd.conf
+	$(INSTALL) -m 644 packaging/forkproxyd.logrotate $(DESTDIR)/etc/logrotate.d/forkproxyd
+	[ -e $(DESTDIR)/etc/default/forkproxyd ] || $(INSTALL) -m 644 packaging/forkproxyd.default $(DESTDIR)/etc/default/forkproxyd
+	[ -e $(DESTDIR)/etc/forkproxyd.conf ] || $(INSTALL) -m 644 packaging/forkproxyd.conf $(DESTDIR)/etc/forkproxyd.conf
 
 install-forkproxy: $(TOOL)
 	$(INSTALL) -d $(DESTDIR)$(BINDIR) $(DESTDIR)$(MANDIR)/man1 $(DESTDIR)$(BASHDIR) $(DESTDIR)$(ZSHDIR)
