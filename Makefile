@@ -9,6 +9,7 @@ BINDIR = $(PREFIX)/bin
 MANDIR = $(PREFIX)/share/man
 DOCDIR = $(PREFIX)/share/doc/forkproxyd
 UNITDIR = $(PREFIX)/lib/systemd/system
+SYSUSERSDIR = $(PREFIX)/lib/sysusers.d
 BASHDIR = $(PREFIX)/share/bash-completion/completions
 ZSHDIR = $(PREFIX)/share/zsh/site-functions
 PROGRAM = out/forkproxyd
@@ -26,18 +27,21 @@ $(PROGRAM) $(TOOL):
 
 # A configuration that is there already stays as it is.
 install: $(PROGRAM)
-	$(INSTALL) -d $(DESTDIR)$(BINDIR) $(DESTDIR)$(MANDIR)/man5 $(DESTDIR)$(MANDIR)/man8 $(DESTDIR)$(DOCDIR) $(DESTDIR)$(UNITDIR) $(DESTDIR)$(BASHDIR) $(DESTDIR)$(ZSHDIR)
+	$(INSTALL) -d $(DESTDIR)$(BINDIR) $(DESTDIR)$(MANDIR)/man5 $(DESTDIR)$(MANDIR)/man8 $(DESTDIR)$(DOCDIR)/examples $(DESTDIR)$(UNITDIR) $(DESTDIR)$(SYSUSERSDIR)
+	$(INSTALL) -d $(DESTDIR)$(BASHDIR) $(DESTDIR)$(ZSHDIR)
 	$(INSTALL) -d $(DESTDIR)/etc/default $(DESTDIR)/etc/logrotate.d
 	$(INSTALL) -m 755 $(PROGRAM) $(DESTDIR)$(BINDIR)/forkproxyd
 	$(INSTALL) -m 755 packaging/forkproxyd-run $(DESTDIR)$(BINDIR)/forkproxyd-run
 	sed 's|/usr/bin/|$(BINDIR)/|' packaging/forkproxyd.service > $(DESTDIR)$(UNITDIR)/forkproxyd.service
 	chmod 644 $(DESTDIR)$(UNITDIR)/forkproxyd.service
+	$(INSTALL) -m 644 packaging/forkproxyd.sysusers $(DESTDIR)$(SYSUSERSDIR)/forkproxyd.conf
 	$(INSTALL) -m 644 packaging/forkproxyd.8 packaging/forkproxyd-run.8 $(DESTDIR)$(MANDIR)/man8
 	$(INSTALL) -m 644 packaging/forkproxyd.conf.5 $(DESTDIR)$(MANDIR)/man5
 	$(INSTALL) -m 644 packaging/completion/forkproxyd.bash $(DESTDIR)$(BASHDIR)/forkproxyd
 	$(INSTALL) -m 644 packaging/completion/forkproxyd.bash $(DESTDIR)$(BASHDIR)/forkproxyd-run
 	$(INSTALL) -m 644 packaging/completion/forkproxyd.zsh $(DESTDIR)$(ZSHDIR)/_forkproxyd
 	$(INSTALL) -m 644 docs/SERVICE.md CHANGELOG.md THIRD-PARTY.md $(DESTDIR)$(DOCDIR)
+	$(INSTALL) -m 644 packaging/grafana-dashboard.json packaging/prometheus-rules.yml packaging/fail2ban-filter.conf $(DESTDIR)$(DOCDIR)/examples
 	$(INSTALL) -m 644 packaging/forkproxyd.logrotate $(DESTDIR)/etc/logrotate.d/forkproxyd
 	[ -e $(DESTDIR)/etc/default/forkproxyd ] || $(INSTALL) -m 644 packaging/forkproxyd.default $(DESTDIR)/etc/default/forkproxyd
 	[ -e $(DESTDIR)/etc/forkproxyd.conf ] || $(INSTALL) -m 644 packaging/forkproxyd.conf $(DESTDIR)/etc/forkproxyd.conf

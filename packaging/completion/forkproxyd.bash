@@ -1,11 +1,11 @@
 # Completion of forkproxyd and forkproxyd-run for bash.
 _forkproxyd() {
     local word=${COMP_WORDS[COMP_CWORD]} before=${COMP_WORDS[COMP_CWORD - 1]} at=$COMP_CWORD
-    local options="--config --control --journal --most-calls --workers --record-route --own-port --most-per-source --metrics"
+    local options="--config --users --control --journal --most-calls --most-bindings --workers --record-route --own-port --most-per-source --metrics"
     COMPREPLY=()
     case $before in
-        --config | --control | --journal | --check-config) at=file ;;
-        --most-calls | --workers | --most-per-source | --metrics) return ;;
+        --config | --users | --control | --journal | --check-config) at=file ;;
+        --most-calls | --most-bindings | --workers | --most-per-source | --metrics) return ;;
     esac
     if [[ ${1##*/} == forkproxyd-run ]]; then
         [[ $at != 1 ]] || at=file
@@ -15,17 +15,21 @@ _forkproxyd() {
             1) ;;
             2) at=file ;;
             3)
-                mapfile -t COMPREPLY < <(compgen -W "stop reload stats calls call" -- "$word")
+                mapfile -t COMPREPLY < <(compgen -W "stop reload stats calls call bindings forget refused" -- "$word")
                 return
                 ;;
             *) return ;;
         esac
+    elif [[ $at != file && $at != 1 && ${COMP_WORDS[1]} == user ]]; then
+        return
+    elif [[ $at != file && $at != 1 && ${COMP_WORDS[1]} == --check-config ]]; then
+        options=--users
     fi
     if [[ $at == file ]]; then
         compopt -o filenames 2> /dev/null
         mapfile -t COMPREPLY < <(compgen -f -- "$word")
     elif [[ $at == 1 ]]; then
-        mapfile -t COMPREPLY < <(compgen -W "tell $options --check-config --help --version" -- "$word")
+        mapfile -t COMPREPLY < <(compgen -W "tell user $options --check-config --help --version" -- "$word")
     else
         mapfile -t COMPREPLY < <(compgen -W "$options" -- "$word")
     fi

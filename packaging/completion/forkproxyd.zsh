@@ -3,8 +3,10 @@
 local -a serving
 serving=(
     '--config[the configuration]:file:_files'
+    '--users[the users, where the configuration has a realm]:file:_files'
     '--journal[the file to which each call is written at its end]:file:_files'
     '--most-calls[how many calls are kept at most]:number:'
+    '--most-bindings[how many contacts may be bound to all users]:number:'
     '--workers[how many threads receive and handle datagrams]:number:'
     '--record-route[stay on the path of dialogs]'
     '--own-port[count the own address as the domain with the own port alone]'
@@ -21,16 +23,30 @@ elif [[ ${words[2]} == tell && $CURRENT -gt 2 ]]; then
         'stats:write the counters'
         'calls:tell of the open calls, from a number on'
         'call:tell of one call'
+        'bindings:tell of the contacts that are bound to users, or to one'
+        'forget:take away the contacts that are bound to a user'
+        'refused:tell of the last hundred requests that were refused'
     )
     case $CURRENT in
         3) _files ;;
         4) _describe command commands ;;
-        5) _message number ;;
+        5)
+            case ${words[4]} in
+                stop) _message seconds ;;
+                calls | call) _message number ;;
+                bindings | forget) _message user ;;
+            esac
+            ;;
+    esac
+elif [[ ${words[2]} == user && $CURRENT -gt 2 ]]; then
+    case $CURRENT in
+        3) _message 'name of the user' ;;
+        4) _message 'realm of the configuration' ;;
     esac
 else
-    _arguments '1:command:(tell)' $serving \
+    _arguments '1:command:(tell user)' $serving \
         '--control[the control socket]:file:_files' \
-        '(- *)--check-config[say whether a configuration is well-formed]:file:_files' \
+        '(--config --control)--check-config[say whether a configuration is well-formed]:file:_files' \
         '(- *)--help[print help]' \
         '(- *)--version[print the version]'
 fi
