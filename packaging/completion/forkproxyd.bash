@@ -1,10 +1,10 @@
 # Completion of forkproxyd and forkproxyd-run for bash.
 _forkproxyd() {
     local word=${COMP_WORDS[COMP_CWORD]} before=${COMP_WORDS[COMP_CWORD - 1]} at=$COMP_CWORD
-    local options="--config --users --control --journal --most-calls --most-bindings --workers --record-route --own-port --most-per-source --metrics"
+    local options="--config --users --control --journal --store --most-calls --most-bindings --workers --record-route --own-port --most-per-source --metrics"
     COMPREPLY=()
     case $before in
-        --config | --users | --control | --journal | --check-config) at=file ;;
+        --config | --users | --control | --journal | --store | --check-config) at=file ;;
         --most-calls | --most-bindings | --workers | --most-per-source | --metrics) return ;;
     esac
     if [[ ${1##*/} == forkproxyd-run ]]; then

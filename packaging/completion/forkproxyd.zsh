@@ -5,6 +5,7 @@ serving=(
     '--config[the configuration]:file:_files'
     '--users[the users, where the configuration has a realm]:file:_files'
     '--journal[the file to which each call is written at its end]:file:_files'
+    '--store[the file in which what telephones register is kept]:file:_files'
     '--most-calls[how many calls are kept at most]:number:'
     '--most-bindings[how many contacts may be bound to all users]:number:'
     '--workers[how many threads receive and handle datagrams]:number:'
