@@ -12,6 +12,10 @@ serving=(
     '--record-route[stay on the path of dialogs]'
     '--own-port[count the own address as the domain with the own port alone]'
     '--most-per-source[how many datagrams one address may send at once, and each second]:number:'
+    '--no-tcp[serve over UDP alone]'
+    '--most-connections[how many connections there are at most]:number:'
+    '--most-connections-per-source[how many connections one address may have opened]:number:'
+    '--idle-seconds[for how many seconds a connection may be silent]:seconds:'
     '--metrics[where the counters are scraped]:address and port:'
 )
 if [[ $service == forkproxyd-run ]]; then
