@@ -27,15 +27,16 @@ $(PROGRAM) $(TOOL):
 
 # A configuration that is there already stays as it is.
 install: $(PROGRAM)
-	$(INSTALL) -d $(DESTDIR)$(BINDIR) $(DESTDIR)$(MANDIR)/man5 $(DESTDIR)$(MANDIR)/man8 $(DESTDIR)$(DOCDIR)/examples $(DESTDIR)$(UNITDIR) $(DESTDIR)$(SYSUSERSDIR)
+	$(INSTALL) -d $(DESTDIR)$(BINDIR) $(DESTDIR)$(MANDIR)/man1 $(DESTDIR)$(MANDIR)/man5 $(DESTDIR)$(MANDIR)/man8 $(DESTDIR)$(DOCDIR)/examples $(DESTDIR)$(UNITDIR) $(DESTDIR)$(SYSUSERSDIR)
 	$(INSTALL) -d $(DESTDIR)$(BASHDIR) $(DESTDIR)$(ZSHDIR)
 	$(INSTALL) -d $(DESTDIR)/etc/default $(DESTDIR)/etc/logrotate.d
 	$(INSTALL) -m 755 $(PROGRAM) $(DESTDIR)$(BINDIR)/forkproxyd
-	$(INSTALL) -m 755 packaging/forkproxyd-run $(DESTDIR)$(BINDIR)/forkproxyd-run
+	$(INSTALL) -m 755 packaging/forkproxyd-run packaging/forkproxyd-ladder $(DESTDIR)$(BINDIR)
 	sed 's|/usr/bin/|$(BINDIR)/|' packaging/forkproxyd.service > $(DESTDIR)$(UNITDIR)/forkproxyd.service
 	chmod 644 $(DESTDIR)$(UNITDIR)/forkproxyd.service
 	$(INSTALL) -m 644 packaging/forkproxyd.sysusers $(DESTDIR)$(SYSUSERSDIR)/forkproxyd.conf
 	$(INSTALL) -m 644 packaging/forkproxyd.8 packaging/forkproxyd-run.8 $(DESTDIR)$(MANDIR)/man8
+	$(INSTALL) -m 644 packaging/forkproxyd-ladder.1 $(DESTDIR)$(MANDIR)/man1
 	$(INSTALL) -m 644 packaging/forkproxyd.conf.5 $(DESTDIR)$(MANDIR)/man5
 	$(INSTALL) -m 644 packaging/completion/forkproxyd.bash $(DESTDIR)$(BASHDIR)/forkproxyd
 	$(INSTALL) -m 644 packaging/completion/forkproxyd.bash $(DESTDIR)$(BASHDIR)/forkproxyd-run
