@@ -59,32 +59,34 @@ fn registers(telephone: &Agent) -> Option<String> {
     }
 }
 
-/// These lines, if the telephone is called and is bound by them once more: their nonce was given by the proxy before.
-fn is_called(caller: &Agent, telephone: &Agent, lines: &str) -> Option<String> {
-    if called(caller, telephone).is_some() && is_bound(telephone, 3, lines) {
-        String::from_str(telephone.alloc, lines).ok()
-    } else {
-        None
-    }
+/// Whether the telephone is called, and is bound by these lines once more: their nonce was given by the proxy before.
+fn is_called(caller: &Agent, telephone: &Agent, lines: &str) -> bool {
+    called(caller, telephone).is_some() && is_bound(telephone, 3, lines)
 }
 
 /// Whether a turn is played well: the telephone registers, where it has not yet; else it is called, and registers with these lines again. The
 /// lines with which it registered.
-fn played<R: Net>(rt: &R, alloc: Global, given: Option<&str>) -> Option<String> {
+fn played<R: Net>(rt: &R, alloc: Global, given: Option<String>) -> Option<String> {
     match (
         Agent::new(rt, alloc, 1, CALLER, PROXY),
         Agent::new(rt, alloc, 2, TELEPHONE, PROXY),
     ) {
         (Some(caller), Some(telephone)) => match given {
             None => registers(&telephone),
-            Some(lines) => is_called(&caller, &telephone, lines),
+            Some(lines) => {
+                if is_called(&caller, &telephone, lines.as_str()) {
+                    Some(lines)
+                } else {
+                    None
+                }
+            }
         },
         _ => None,
     }
 }
 
 /// Plays a turn once the proxy serves, and tells it to end.
-fn plays<R: Net + Clock>(rt: &R, alloc: Global, given: Option<&str>) -> Option<String> {
+fn plays<R: Net + Clock>(rt: &R, alloc: Global, given: Option<String>) -> Option<String> {
     let lines = if counts(rt, alloc, CONTROL, "forkproxy_calls 0\n") {
         played(rt, alloc, given)
     } else {
@@ -106,12 +108,11 @@ fn a_telephone_is_called_by_the_proxy_behind(rt: HostRuntime) -> Result<(), Fail
         || plays(&rt, alloc, None),
     );
     let ended: Result<(), DaemonFault> = served;
-    let given = lines.as_deref();
-    holds(&rt, given.is_some(), "a telephone registers");
+    holds(&rt, lines.is_some(), "a telephone registers");
     let (behind, called) = join(
         &rt,
         || serve(&rt, alloc, OPTIONS),
-        || plays(&rt, alloc, given),
+        || plays(&rt, alloc, lines),
     );
     let all_ended = ended.is_ok() && behind.is_ok();
     holds(&rt, called.is_some(), "it is called, and its nonce taken");
