@@ -227,6 +227,10 @@ fn played<R: Net<Stream = TcpStream, Listener = TcpListener> + Clock>(
     if !calls_telephone(rt, alloc)? {
         return Ok("a telephone is called by a connection");
     }
+    // a connection that its caller has ended counts for its address until the proxy has closed it
+    if !counts(rt, alloc, CONTROL, "\nforkproxy_connections 0\n") {
+        return Ok("connections that their peers end are closed");
+    }
     if !closes_one_more(rt, alloc)? {
         return Ok("one connection more than an address may open is closed");
     }
