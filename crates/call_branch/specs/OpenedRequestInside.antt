@@ -23,6 +23,7 @@ opened_with o = record {
   stamps = o.stamps;
   reasons = o.reasons;
   ring = o.ring;
+  large = o.large;
 }
 
 -- it can be forwarded, and its key and its kind are known

@@ -11,7 +11,7 @@ ghost use Rattle.sip_route.specs.Hops.{IsHops, hops_name};
 ghost use Rattle.sip_build.specs.Forwarding.{is_request};
 ghost use Rattle.fork_rank.specs.KindView as kinds;
 ghost use Rattle.call_model.specs.Built.{ack_to, cancel_to, request_to};
-ghost use Rattle.call_model.specs.OpenedRequest.{branch_at, is_invite, kind_of};
+ghost use Rattle.call_model.specs.OpenedRequest.{branch_at, by_connection, is_invite, kind_of, sized_hop};
 ghost use Rattle.call_branch.specs.BranchInside.{ack_made};
 ghost use Rattle.call_branch.specs.OpenedRequestInside.{opened_with};
 
@@ -23,7 +23,7 @@ use sip_build::{write_forwarded, write_forwarded_ack, write_forwarded_cancel};
 use sip_route::loop_key;
 use sip_text::{HeaderLine, Message};
 use sip_txn::TxSend;
-use sip_uri::Hop;
+use sip_uri::{Hop, Transport};
 use sip_via::Own;
 use std::alloc::{AllocError, Allocator, Global};
 use std::marker::Model;
@@ -56,6 +56,19 @@ pub struct Opening<A: Allocator = Global> {
     pub reasons: bool,
     /// The longest time of the branches to contacts of a 3xx, in milliseconds.
     pub ring: u64,
+    /// Whether its requests are too large for datagrams, and go over connections instead (RFC 3261 section 18.1.1).
+    pub large: bool,
+}
+
+/// A connection in place of datagrams.
+fn by_connection(transport: Transport) -> Transport
+    ensures { result ≡ by_connection transport }
+{
+    match transport {
+        Transport::Udp => Transport::Tcp,
+        Transport::Tcp => Transport::Tcp,
+        Transport::Back(port) => Transport::Back(port),
+    }
 }
 
 /// What a call is opened with, and no step changes: its request, the numbers that name its branches, where its answers go, and
@@ -127,7 +140,8 @@ impl<A: Allocator> OpenedRequest<A> {
     pub fn into_request(self) -> Message<A>
         ensures { result ≡ self.request }
     {
-        self.opening.request
+        let opening = self.opening;
+        opening.request
     }
 
     /// Where the answers to the caller go.
@@ -170,6 +184,21 @@ impl<A: Allocator> OpenedRequest<A> {
         ensures { result ≡ self.now.ring }
     {
         self.opening.ring
+    }
+
+    /// The hop by which a request to a target goes that this one leads to: over a connection where it would be too large for a datagram
+    /// (RFC 3261 section 18.1.1).
+    pub fn sized_hop(&self, hop: Hop) -> Hop
+        ensures { result ≡ sized_hop self.now.large hop }
+    {
+        if !self.opening.large {
+            return hop;
+        }
+        Hop {
+            addr: hop.addr,
+            port: hop.port,
+            transport: by_connection(hop.transport),
+        }
     }
 
     /// The value of the Record-Route line that the requests to the targets get, where they get one (RFC 3261 section 16.6 step 4).

@@ -12,7 +12,7 @@ use Rattle.fork_model.specs.Sources.{AddsNoRow, IsRowOf, NewRowsAreContacts}
 use Rattle.sip_uri.specs.Contact.{contacts_of}
 use Rattle.sip_uri.specs.Hop.{hop_of}
 use Rattle.sip_uri.specs.Key.{key_of}
-use Rattle.call_model.specs.OpenedRequest.{next_hop, destination_by, destination_to}
+use Rattle.call_model.specs.OpenedRequest.{next_hop, destination_by, destination_to, sized_hop}
 use Rattle.call_caller.specs.NewDestinations.{GivesDestinations, has_destination, joined, destination_in}
 use Rattle.call_model.specs.Posting.{destination_of_row}
 use Rattle.call_caller.proofs.NewPlaces.{added_apart, drop_all}
@@ -99,11 +99,11 @@ hop_at (x ∷ cs) (suc place) c h e = hop_at cs place c (and_parts (has_hop x) (
 goes_by : (opened : OpenedRequest) (uri : Uri) → is_some (hop_of uri) ≡ true → is_some (destination_to opened uri) ≡ true
 goes_by opened uri h = by opened.route
   where
-    at : (hop : Option Hop) → is_some hop ≡ true → is_some (destination_by uri hop opened.ring) ≡ true
+    at : (hop : Option Hop) → is_some hop ≡ true → is_some (destination_by uri (option_map (sized_hop opened.large) hop) opened.ring) ≡ true
     at None e = absurd cc
     at (Some hop) e = refl
 
-    by : (route : Option Hop) → is_some (destination_by uri (next_hop route uri) opened.ring) ≡ true
+    by : (route : Option Hop) → is_some (destination_by uri (option_map (sized_hop opened.large) (next_hop route uri)) opened.ring) ≡ true
     by (Some hop) = refl
     by None = at (hop_of uri) h
 

@@ -140,7 +140,7 @@ fn tried_uri<A: Allocator + Clone>(
 }
 
 /// Where the request to a URI goes: by the first Route value, if there is one, else by the URI (RFC 3261 section 16.6
-/// steps 6 and 7); and how long its branch may take.
+/// steps 6 and 7), over a connection where it is too large for a datagram; and how long its branch may take.
 fn destination_of<A: Allocator + Clone>(
     opened: &OpenedRequest<A>,
     uri: Option<SipUri<A>>,
@@ -152,7 +152,7 @@ fn destination_of<A: Allocator + Clone>(
         Some(hop) => hop,
         None => uri.next_hop()?,
     };
-    Some(Destination::new(uri, hop, opened.ring()))
+    Some(Destination::new(uri, opened.sized_hop(hop), opened.ring()))
 }
 
 /// The key of a contact that may be tried.

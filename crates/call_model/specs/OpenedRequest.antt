@@ -1,9 +1,11 @@
 -- What a call is opened with, and no step changes (RFC 3261 sections 16.2 to 16.6).
-use Rattle.std.specs.Prelude.{ℕ, Bool, List, [], Option, Some, None, if◌then◌else◌}
+use Rattle.std.specs.Prelude.{ℕ, Bool, List, [], Option, Some, None, option_map, if◌then◌else◌}
 use Rattle.fork_model.specs.Table.{Kind, Invite, Other}
 use Rattle.sip_text.specs.Method as methods
 use Rattle.sip_text.specs.Text.{MessageText, StartText, Request, Response}
 use Rattle.sip_uri.specs.declared.hop.Hop.{Hop}
+use Rattle.sip_uri.specs.declared.hop.Transport.{Transport}
+use Rattle.sip_uri.specs.declared.hop.Transport.TheVariants.{Udp, Tcp, Back}
 use Rattle.sip_uri.specs.Hop.{hop_of}
 use Rattle.sip_uri.specs.Uri.{Uri}
 use Rattle.sip_branch.specs.declared.branch.BranchName.{BranchName}
@@ -31,6 +33,8 @@ pub record OpenedRequest : Type 0 where
   pub reasons : Bool
   -- the longest time of the branches to contacts of a 3xx, in milliseconds
   pub ring : ℕ
+  -- its requests are too large for datagrams, and go over connections instead (section 18.1.1)
+  pub large : Bool
 
 abbrev pub method_of : StartText → List ℕ
 method_of (Request method uri) = method
@@ -59,10 +63,20 @@ abbrev pub next_hop : Option Hop → Uri → Option Hop
 next_hop (Some hop) uri = Some hop
 next_hop None uri = hop_of uri
 
+-- a connection in place of datagrams
+abbrev pub by_connection : Transport → Transport
+by_connection Udp = Tcp
+by_connection Tcp = Tcp
+by_connection (Back port) = Back port
+
+-- the hop by which a request goes, that may be a large one, where this one leads (section 18.1.1)
+abbrev pub sized_hop : (large : Bool) → Hop → Hop
+sized_hop large hop = if large then record hop { transport = by_connection hop.transport } else hop
+
 abbrev pub destination_by : Uri → Option Hop → (longest : ℕ) → Option Destination
 destination_by uri None longest = None
 destination_by uri (Some hop) longest = Some (record { uri = uri; hop = hop; longest = longest })
 
 -- that of a contact of a 3xx
 abbrev pub destination_to : OpenedRequest → Uri → Option Destination
-destination_to opened uri = destination_by uri (next_hop opened.route uri) opened.ring
+destination_to opened uri = destination_by uri (option_map (sized_hop opened.large) (next_hop opened.route uri)) opened.ring

@@ -17,6 +17,8 @@ mod histories;
 #[cfg(test)]
 mod holds;
 #[cfg(test)]
+mod large;
+#[cfg(test)]
 mod laws;
 #[cfg(test)]
 mod looking;

@@ -271,6 +271,7 @@ fn fixed_by(request: Message<Global>) -> Option<OpenedRequest> {
             stamps: false,
             reasons: true,
             ring: 181_000,
+            large: false,
         })),
         StartLine::Response { .. } => None,
     }

@@ -16,9 +16,9 @@ use Rattle.sip_build.specs.declared.responses.OwnStatus.TheVariants as own_statu
 use Rattle.sip_build.specs.Generated.{generated_of, timestamp_lines}
 use Rattle.sip_text.specs.Text.{HeaderText}
 use Rattle.call_model.specs.Built.{further_lines, generated}
-use Rattle.call_model.specs.OpenedRequest.{OpenedRequest, destination_by}
+use Rattle.call_model.specs.OpenedRequest.{OpenedRequest, destination_by, sized_hop}
 use Rattle.fork_call.specs.Destinations.{destination_of_row, destination_to}
-use Rattle.fork_call.specs.Opening.{candidates_for}
+use Rattle.fork_call.specs.Opening.{candidates_for, opened_of}
 use Rattle.sip_via.specs.Edits.{with_headers}
 use Rattle.proxy_routing.specs.OwnCredentials.{AreSameBut}
 use Rattle.fork_call.proofs.laws.AnswersWithout.{answers_without, timestamps_without}
@@ -113,15 +113,15 @@ chained_from : {X Y : Type 0} → (f : X → Option Y) (o : Option X) (y : Y) �
 chained_from f None y e = absurd cc
 chained_from f (Some x) y e = (x, refl, e)
 
-record GoesBy (target : CandidateTarget) (destination : Destination) : Type 0 where
+record GoesBy (large : Bool) (target : CandidateTarget) (destination : Destination) : Type 0 where
   pub uri : destination.uri ≡ requested target.uri
-  pub hop : target.hop ≡ Some destination.hop
+  pub hop : option_map (sized_hop large) target.hop ≡ Some destination.hop
   pub longest : destination.longest ≡ target.longest
 
-goes_by : (target : CandidateTarget) (destination : Destination) → destination_to target ≡ Some destination → GoesBy target destination
-goes_by target destination e = of target.hop refl e
+goes_by : (large : Bool) (target : CandidateTarget) (destination : Destination) → destination_to large target ≡ Some destination → GoesBy large target destination
+goes_by large target destination e = of (option_map (sized_hop large) target.hop) refl e
   where
-    of : (o : Option Hop) → target.hop ≡ o → destination_by (requested target.uri) o target.longest ≡ Some destination → GoesBy target destination
+    of : (o : Option Hop) → option_map (sized_hop large) target.hop ≡ o → destination_by (requested target.uri) o target.longest ≡ Some destination → GoesBy large target destination
     of None at h = absurd cc
     of (Some hop) at h =
         let made : Destination = record { uri = requested target.uri; hop = hop; longest = target.longest } in
@@ -143,13 +143,14 @@ destinations_lead setup number m source call n destination opens at =
     let cs = candidates_for setup request uri in
     let of_call : call ≡ _ = begins.2 in
     let request_is : call.opened.request ≡ request = ap (λ (x : Call). x.opened.request) of_call in
+    let fixed = opened_of setup number request source uri in
     let rows : List Row = opening_rows (targets_of cs) in
     let rows_are : rows_of call ≡ rows = ap rows_of of_call in
     let there : slice_get (map Some begins.0) n ≡ Some (Some destination) =
     slice_get-map Some begins.0 n ∙ ap (option_map Some) (sym (ap (λ (x : Call). slice_get x.destinations n) of_call) ∙ at) in
-    let row = mapped_from (destination_of_row cs) rows n destination (sym (ap (λ (ds : List (Option Destination)). slice_get ds n) begins.1) ∙ there) in
-    let target = chained_from destination_to (slice_get cs row.0.place) destination row.2 in
-    let by = goes_by target.0 destination target.2 in
+    let row = mapped_from (destination_of_row fixed.large cs) rows n destination (sym (ap (λ (ds : List (Option Destination)). slice_get ds n) begins.1) ∙ there) in
+    let target = chained_from (destination_to fixed.large) (slice_get cs row.0.place) destination row.2 in
+    let by = goes_by fixed.large target.0 destination target.2 in
     record {
       target = target.0;
       of_row = record {
@@ -160,7 +161,7 @@ destinations_lead setup number m source call n destination opens at =
         target_is = ap (λ (x : MessageText). slice_get (candidates_for setup x uri) row.0.place) request_is ∙ target.1;
       };
       uri = by.uri;
-      hop = by.hop;
+      hop = ap (λ (x : Call). option_map (sized_hop x.opened.large) target.0.hop) of_call ∙ by.hop;
       longest = by.longest;
       names = requests_name call.opened destination n target.0.uri by.uri;
     }

@@ -17,7 +17,7 @@ use Rattle.proxy_routing.specs.declared.unrouted.Unrouted.{Unrouted}
 use Rattle.proxy_routing.specs.declared.unrouted.Unrouted.TheVariants as unrouted
 use Rattle.proxy_routing.specs.Admission.{IsPrepared, asks_extension}
 use Rattle.proxy_routing.specs.Unrouted.{IfRejected, IsGivenBack, IsTurnedBack}
-use Rattle.fork_call.specs.Opening.{Asks, IsOpenable, IsRefused, IsRefusedFor, IsUnreachable, Opens, Reaches, Refuses, candidates_for, opened_of, record_route_of, tried_by}
+use Rattle.fork_call.specs.Opening.{Asks, IsOpenable, IsRefused, IsRefusedFor, IsUnreachable, Opens, Reaches, Refuses, candidates_for, large_of, opened_of, record_route_of, tried_by}
 use Rattle.call_model.specs.Call.{numbered}
 use Rattle.fork_call.specs.Prepared.{IsPreparedAs, IsStoppedFor, IsUnreachableAs, Prepared, is_found_first}
 use Rattle.fork_call.specs.inner.Refused.{AsksAs, HasTarget}
@@ -148,15 +148,16 @@ some_if cs slice len none test false_is same long e =
     absurd (let a : true ≡ false = sym is_none ∙ false_is in cc)
 
 pub fixed_so : (setup : Setup) (number : ℕ) (request : MessageText) (source : Hop) (uri : Uri) (own : Own) (instance : ℕ) (caller : Hop) (route : Option Hop) (inside streams : Bool) (recorded : Option (List ℕ))
-    (tried : TriedContacts) (stamps reasons : Bool) (ring : ℕ) (first : FirstRoute) (opened : OpenedRequest)
-    → opened ≡ record { number = number; own = own; instance = instance; request = request; caller = caller; route = route; tried = tried; record_route = recorded; stamps = stamps; reasons = reasons; ring = ring }
+    (tried : TriedContacts) (stamps reasons : Bool) (ring : ℕ) (large : Bool) (first : FirstRoute) (opened : OpenedRequest)
+    → opened ≡ record { number = number; own = own; instance = instance; request = request; caller = caller; route = route; tried = tried; record_route = recorded; stamps = stamps; reasons = reasons; ring = ring; large = large }
     → own ≡ setup.own → instance ≡ setup.instance → caller ≡ reply_of (via_of (top_value request)) source
     → route ≡ hop_if_any streams first → first ≡ first_route request → inside ≡ is_domain setup uri → tried ≡ tried_by inside streams → streams ≡ setup.streams
-    → recorded ≡ record_route_of setup request → stamps ≡ setup.stamps → reasons ≡ setup.reasons → ring ≡ setup.ring → opened ≡ opened_of setup number request source uri
-fixed_so setup number request source uri own instance caller route inside streams recorded tried stamps reasons ring first opened e p q r s t u a b v w x y =
+    → recorded ≡ record_route_of setup request → stamps ≡ setup.stamps → reasons ≡ setup.reasons → ring ≡ setup.ring → large ≡ large_of setup request uri recorded → opened ≡ opened_of setup number request source uri
+fixed_so setup number request source uri own instance caller route inside streams recorded tried stamps reasons ring large first opened e p q r s t u a b v w x y z =
     let destination : route ≡ hop_if_any setup.streams (first_route request) =
     s ∙ ap (hop_if_any streams) t ∙ ap (λ (x : Bool). hop_if_any x (first_route request)) b in
     let which : tried ≡ tried_by (is_domain setup uri) setup.streams = a ∙ ap (λ (x : Bool). tried_by x streams) u ∙ ap (tried_by (is_domain setup uri)) b in
+    let sized : large ≡ large_of setup request uri (record_route_of setup request) = z ∙ ap (λ (value : Option (List ℕ)). large_of setup request uri value) v in
     e ∙ (λ k. record {
       number = number;
       own = p k;
@@ -169,6 +170,7 @@ fixed_so setup number request source uri own instance caller route inside stream
       stamps = w k;
       reasons = x k;
       ring = y k;
+      large = sized k;
     })
 
 pub reaches : (setup : Setup) (number : ℕ) (request : MessageText) (source : Hop) (uri : Uri) (rules : Rules) (inside : Bool) (route : FirstRoute) (opened : OpenedRequest) (cs : List CandidateTarget) (call : Call)

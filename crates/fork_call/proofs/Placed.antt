@@ -1,5 +1,5 @@
 -- Each row of a fork as it opens is for one of its targets.
-use Rattle.fork_call.proofs.OpeningCommon.{◌≡◌, ◌∙◌, ℕ, zero, suc, ◌<◌, List, [], map, take, Option, Some, None, Result, Ok, Err, refl, ap, sym, subst, arith, IfOk, option_map, same_Some, Rules, Call, OpenedRequest, table_of, IsBegun, CandidateTarget}
+use Rattle.fork_call.proofs.OpeningCommon.{◌≡◌, ◌∙◌, ℕ, Bool, zero, suc, ◌<◌, List, [], map, take, Option, Some, None, Result, Ok, Err, refl, ap, sym, subst, arith, IfOk, option_map, same_Some, Rules, Call, OpenedRequest, table_of, IsBegun, CandidateTarget}
 use Rattle.fork_call.proofs.OpeningCommon.{targets_of, destination_of_row}
 use Rattle.std.proofs.Common.{◌+◌, ◌∷◌, ◌++◌, length, drop, slice_get}
 use Rattle.std.specs.List.{cons_option, filter_map}
@@ -74,18 +74,18 @@ module _ {X Y : Type 0} (f : X → Y) where
       let on : suc n + 1 ≡ suc (n + 1) = omega arith in
       ap (λ (k : ℕ). map f (take k (y ∷ xs))) on ∙ ap (λ (l : List Y). f y ∷ l) (one_more xs n x e)
 
-pub destinations_more : (cs : List CandidateTarget) (rows : List Row) (destinations new : List Destination) (n k : ℕ) (destination : Destination)
-    → map Some destinations ≡ map (destination_of_row cs) (take n rows) → new ≡ destinations ++ destination ∷ []
-    → option_map (λ (row : Row). row.place) (slice_get rows n) ≡ Some k → option_and_then destination_to (slice_get cs k) ≡ Some destination
-    → map Some new ≡ map (destination_of_row cs) (take (n + 1) rows)
-destinations_more cs rows destinations new n k destination so_far e at this =
+pub destinations_more : (large : Bool) (cs : List CandidateTarget) (rows : List Row) (destinations new : List Destination) (n k : ℕ) (destination : Destination)
+    → map Some destinations ≡ map (destination_of_row large cs) (take n rows) → new ≡ destinations ++ destination ∷ []
+    → option_map (λ (row : Row). row.place) (slice_get rows n) ≡ Some k → option_and_then (destination_to large) (slice_get cs k) ≡ Some destination
+    → map Some new ≡ map (destination_of_row large cs) (take (n + 1) rows)
+destinations_more large cs rows destinations new n k destination so_far e at this =
     let found = named (slice_get rows n) k at in
-    let of_row : destination_of_row cs found.0 ≡ Some destination =
-    ap (λ (x : ℕ). option_and_then destination_to (slice_get cs x)) found.2 ∙ this in
+    let of_row : destination_of_row large cs found.0 ≡ Some destination =
+    ap (λ (x : ℕ). option_and_then (destination_to large) (slice_get cs x)) found.2 ∙ this in
     ap (map Some) e ∙ map_push Some destinations destination
     ∙ ap (λ (l : List (Option Destination)). l ++ Some destination ∷ []) so_far
-    ∙ ap (λ (o : Option Destination). map (destination_of_row cs) (take n rows) ++ o ∷ []) (sym of_row)
-    ∙ sym (one_more (destination_of_row cs) rows n found.0 found.1)
+    ∙ ap (λ (o : Option Destination). map (destination_of_row large cs) (take n rows) ++ o ∷ []) (sym of_row)
+    ∙ sym (one_more (destination_of_row large cs) rows n found.0 found.1)
 
 -- ---- how the call begins
 
@@ -99,9 +99,9 @@ as_many f (y ∷ ys) (x ∷ xs) e =
 
 pub begun_so : {E : Type 0} (rules : Rules) (opened : OpenedRequest) (cs : List CandidateTarget) (destinations : List Destination) (log : Log) (kind : Kind)
     (r : Result Call E) → IfOk r (λ call. call ≡ begun opened log destinations) → log ≡ opening_log kind rules (targets_of cs) → kind ≡ kind_of opened
-    → AreDestinations cs (table_of log).rows destinations → IfOk r (IsBegun rules opened cs)
+    → AreDestinations opened.large cs (table_of log).rows destinations → IfOk r (IsBegun rules opened cs)
 begun_so rules opened cs destinations log kind (Err fault) e p q w = tt
 begun_so rules opened cs destinations log kind (Ok call) e p q w =
     let whole : log ≡ opening_log (kind_of opened) rules (targets_of cs) = p ∙ ap (λ (k : Kind). opening_log k rules (targets_of cs)) q in
-    let P : Log → Type 0 = λ l. AreDestinations cs (table_of l).rows destinations in
+    let P : Log → Type 0 = λ l. AreDestinations opened.large cs (table_of l).rows destinations in
     (destinations, subst P whole w, e ∙ ap (λ (l : Log). begun opened l destinations) whole)

@@ -1,6 +1,6 @@
 -- What the datagrams of a call that opened are made of, back to the request that came (RFC 3261 sections 8.2.6, 16.4, 16.6 and
 -- 18.2.1).
-use Rattle.std.specs.Prelude.{◌≡◌, ℕ, Ok, Some, slice_get}
+use Rattle.std.specs.Prelude.{◌≡◌, ℕ, Ok, Some, option_map, slice_get}
 use Rattle.fork_model.specs.Table.{Row}
 use Rattle.sip_text.specs.Text.{MessageText, spelling}
 use Rattle.sip_uri.specs.declared.hop.Hop.{Hop}
@@ -11,7 +11,7 @@ use Rattle.sip_build.specs.Forwarding.{to_target}
 use Rattle.call_model.specs.declared.cause.Cause.TheVariants as cause
 use Rattle.call_model.specs.Built.{Datagram, generated, request_to}
 use Rattle.call_model.specs.Call.{Call, rows_of}
-use Rattle.call_model.specs.OpenedRequest.{OpenedRequest, Destination}
+use Rattle.call_model.specs.OpenedRequest.{OpenedRequest, Destination, sized_hop}
 use Rattle.proxy_config.specs.Setup.{Setup}
 use Rattle.proxy_routing.specs.Admission.{target_uri}
 use Rattle.proxy_routing.specs.Targets.{CandidateTarget}
@@ -40,13 +40,13 @@ pub record IsTargetOf (setup : Setup) (call : Call) (n : ℕ) (target : Candidat
   pub row_is : slice_get (rows_of call) n ≡ Some row
   pub target_is : slice_get (candidates_for setup call.opened.request uri) row.place ≡ Some target
 
--- that by which branch n is sent to leads to its target: to the hop of the target, as long as that may take, and the request that
--- goes there names the Request-URI of the target as it was given
+-- that by which branch n is sent to leads to its target: to the hop of the target, by a connection where the request is a large one, as
+-- long as that may take, and the request that goes there names the Request-URI of the target as it was given
 pub record LeadsToTarget (setup : Setup) (call : Call) (n : ℕ) (destination : Destination) : Type 0 where
   pub target : CandidateTarget
   pub of_row : IsTargetOf setup call n target
   pub uri : destination.uri ≡ requested target.uri
-  pub hop : target.hop ≡ Some destination.hop
+  pub hop : option_map (sized_hop call.opened.large) target.hop ≡ Some destination.hop
   pub longest : destination.longest ≡ target.longest
   pub names : (request_to call.opened destination n).start ≡ to_target call.opened.request.start target.uri
 

@@ -1,22 +1,24 @@
 -- How a call opens, and why it does not (RFC 3261 sections 16.2 to 16.6).
-use Rattle.std.specs.Prelude.{◌≡◌, ◌≢◌, ℕ, Bool, ◌&&◌, true, false, codes, List, [], ◌∷◌, ◌++◌, Option, Some, None, Ok, if◌then◌else◌}
+use Rattle.std.specs.Prelude.{◌≡◌, ◌≢◌, ℕ, nat_lt, Bool, ◌&&◌, true, false, codes, List, [], ◌∷◌, ◌++◌, length, Option, Some, None, Ok, if◌then◌else◌}
 use Rattle.std.specs.Fmt.{decimal}
 use Rattle.std.specs.List.{list_all}
 use Rattle.fork_model.specs.History.{opening_rows}
 use Rattle.fork_model.specs.Table.{Rules}
 use Rattle.fork_model.specs.Log.{opening_log}
 use Rattle.sip_text.specs.Method.{known_method, stands_alone}
-use Rattle.sip_text.specs.Text.{MessageText, StartText}
+use Rattle.sip_text.specs.Text.{MessageText, StartText, spelling}
 use Rattle.sip_uri.specs.declared.hop.Hop.{Hop}
 use Rattle.sip_uri.specs.Uri.{Uri}
+use Rattle.sip_branch.specs.declared.branch.BranchName.{BranchName}
 use Rattle.sip_via.specs.Received.{reply_of}
 use Rattle.sip_via.specs.Address.{address_text}
 use Rattle.sip_via.specs.declared.own.Own.{Own}
 use Rattle.sip_via.specs.TopVia.{top_value}
 use Rattle.sip_via.specs.ViaParts.{via_of}
-use Rattle.sip_route.specs.Loop.{call_id}
+use Rattle.sip_route.specs.Loop.{call_id, loop_key}
 use Rattle.sip_route.specs.RouteValues.{first_route}
 use Rattle.sip_build.specs.Dialogs.{opens_dialog}
+use Rattle.sip_build.specs.Forwarding.{forwarded}
 use Rattle.sip_build.specs.OwnRoute.{own_route}
 use Rattle.sip_digest.specs.Stamp.{token_text}
 use Rattle.proxy_config.specs.declared.dialog_token.DialogToken.{DialogToken}
@@ -65,6 +67,17 @@ tried_by false streams = NoContacts
 tried_by true false = OverUdp
 tried_by true true = Every
 
+-- the request to this URI as it goes on over UDP, by the branch to target 0 of call 0, with this Record-Route value, if there is one
+abbrev pub datagram_of : Setup → MessageText → Uri → (record_route : Option (List ℕ)) → List ℕ
+datagram_of setup request uri recorded =
+    let branch : BranchName = record { key = loop_key request; instance = setup.instance; context = 0; target = 0 } in
+    spelling (forwarded request uri setup.own branch recorded)
+
+-- whether requests to targets go over connections: where there are streams, the setup says so, and that one is of more than 1,300 bytes
+-- (section 18.1.1)
+abbrev pub large_of : Setup → MessageText → Uri → (record_route : Option (List ℕ)) → Bool
+large_of setup request uri recorded = (setup.streams && setup.large) && nat_lt 1300 (length (datagram_of setup request uri recorded))
+
 -- what the request to this URI, as it was prepared, opens with; its answers go where its top Via value says (section
 -- 18.2.2), and the proxy is responsible for a URI of its domain (section 16.5)
 abbrev pub opened_of : Setup → ℕ → MessageText → Hop → Uri → OpenedRequest
@@ -80,13 +93,14 @@ opened_of setup number request source uri = record {
   stamps = setup.stamps;
   reasons = setup.reasons;
   ring = setup.ring;
+  large = large_of setup request uri (record_route_of setup request);
 }
 
 -- a fork to these targets, of which nothing was sent yet
 abbrev pub IsBegun : Rules → OpenedRequest → List CandidateTarget → Call → Type 0
 IsBegun rules opened cs call =
     (destinations : List Destination)
-    × AreDestinations cs (opening_rows (targets_of cs)) destinations
+    × AreDestinations opened.large cs (opening_rows (targets_of cs)) destinations
     × (call ≡ begun opened (opening_log (kind_of opened) rules (targets_of cs)) destinations)
 
 -- ---- the first fault, or the call

@@ -7,6 +7,7 @@
 mod action;
 mod call;
 mod fault;
+mod large;
 mod law;
 mod opening;
 mod opening_request;

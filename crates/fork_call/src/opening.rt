@@ -22,6 +22,7 @@ ghost use Rattle.fork_call.specs.inner.Distinct.{AreDistinct};
 ghost use Rattle.sip_uri.specs.Fault.{Gives, refusal};
 ghost use Rattle.proxy_routing.specs.Targets.{has_hop, targets_of};
 
+use crate::large::is_large;
 use crate::opening_request::OpeningRequest;
 use crate::prepared_request::PreparedRequest;
 use crate::record_route::record_route_of;
@@ -43,32 +44,35 @@ use sip_uri::{Hop, SipUri, UriFault};
 use sip_via::TopVia;
 use std::alloc::{AllocError, Allocator};
 
-/// Where the request to a target that has a hop goes, and how long its branch may take.
+/// Where the request to a target that has a hop goes, over a connection where it is too large for a datagram, and how long its branch may
+/// take.
 fn destination_to<A: Allocator + Clone>(
     alloc: A,
+    opened: &OpenedRequest<A>,
     candidate: &CandidateTarget<'_, A>,
 ) -> Result<Destination<A>, AllocError>
     requires hop { has_hop candidate.now ≡ true }
-    ensures { IfOk result (λ destination. destination_to candidate.now ≡ Some destination) }
+    ensures { IfOk result (λ destination. destination_to opened.now.large candidate.now ≡ Some destination) }
 {
     let Some(hop) = candidate.hop() else {
         unreachable!()
     };
     let uri = candidate.uri().requested(alloc)?;
-    Ok(Destination::new(uri, hop, candidate.longest()))
+    Ok(Destination::new(uri, opened.sized_hop(hop), candidate.longest()))
 }
 
 /// Where the request to the target at that place goes.
 fn destination_at<A: Allocator + Clone>(
     alloc: A,
+    opened: &OpenedRequest<A>,
     candidates: &[CandidateTarget<'_, A>],
     place: usize,
 ) -> Result<Destination<A>, AllocError>
     requires there { place < length candidates.now }
     requires hops { list_all has_hop candidates.now ≡ true }
-    ensures { IfOk result (λ destination. option_and_then destination_to (slice_get candidates.now place) ≡ Some destination) }
+    ensures { IfOk result (λ destination. option_and_then (destination_to opened.now.large) (slice_get candidates.now place) ≡ Some destination) }
 {
-    destination_to(alloc, &candidates[place])
+    destination_to(alloc, opened, &candidates[place])
 }
 
 /// The URI that a request names, where it can be read (RFC 3261 section 16.5).
@@ -104,18 +108,19 @@ pub fn admitted_target<A: Allocator + Clone>(
 /// Where the request of each row goes, in the order of the rows.
 fn destinations_of<A: Allocator + Clone>(
     alloc: &A,
+    opened: &OpenedRequest<A>,
     candidates: &[CandidateTarget<'_, A>],
     book: &Book<A>,
 ) -> Result<Vec<Destination<A>, A>, AllocError>
     requires hops { list_all has_hop candidates.now ≡ true }
     requires places { (n : ℕ) (row : Row) → slice_get (table_of book.now).rows n ≡ Some row → row.place < length candidates.now }
-    ensures { IfOk result (λ destinations. AreDestinations candidates.now (table_of book.now).rows destinations.items) }
+    ensures { IfOk result (λ destinations. AreDestinations opened.now.large candidates.now (table_of book.now).rows destinations.items) }
 {
     let count = book.context().count();
     let mut destinations = Vec::with_capacity(alloc.clone()?, count as usize)?;
     for n in 0..book.context().count() {
         let place = row_place(book, n);
-        destinations.push(destination_at(alloc.clone()?, candidates, place)?)?;
+        destinations.push(destination_at(alloc.clone()?, opened, candidates, place)?)?;
     }
     Ok(destinations)
 }
@@ -169,7 +174,7 @@ fn begin<A: Allocator + Clone>(
     let kind = opened.kind();
     let book = book_of(alloc.clone()?, kind, rules, candidates)?;
     rows_have_places(&book, candidates, kind, rules);
-    let destinations = destinations_of(&alloc, candidates, &book)?;
+    let destinations = destinations_of(&alloc, &opened, candidates, &book)?;
     CallState::begin(alloc, opened, book, destinations, now)
 }
 
@@ -219,6 +224,7 @@ fn open_at<A: Allocator + Clone>(
     }
     let streams = setup.has_streams();
     let record_route = record_route_of(alloc.clone()?, setup, token, &request)?;
+    let large = is_large(alloc.clone()?, setup, &request, uri, record_route.as_deref())?;
     let opened = OpenedRequest::new(Opening {
         number: NO_NUMBER,
         own: setup.own(),
@@ -231,6 +237,7 @@ fn open_at<A: Allocator + Clone>(
         stamps: setup.stamps(),
         reasons: setup.gives_reasons(),
         ring: setup.ring(),
+        large,
     });
     locations_are_targets();
     let _locations = setup.locations();

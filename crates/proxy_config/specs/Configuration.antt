@@ -76,6 +76,7 @@ pub record IsSetup (shown : Shown) (setup : Setup) : Type 0 where
   pub stamps : setup.stamps ≡ false
   pub reasons : setup.reasons ≡ false
   pub streams : setup.streams ≡ false
+  pub large : setup.large ≡ false
   pub ways : setup.ways ≡ []
   pub realm : setup.realm ≡ None
   pub token : setup.token ≡ None

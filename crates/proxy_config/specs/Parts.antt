@@ -60,6 +60,7 @@ no_setup = record {
   stamps = false;
   reasons = false;
   streams = false;
+  large = false;
   ways = [];
   realm = None;
   token = None;

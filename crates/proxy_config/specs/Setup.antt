@@ -53,6 +53,8 @@ pub record Setup : Type 0 where
   pub reasons : Bool
   -- whether the proxy has connections, so that requests may go over TCP (section 18)
   pub streams : Bool
+  -- whether requests of more than 1,300 bytes go over TCP, where it has connections (section 18.1.1)
+  pub large : Bool
   -- by which hops targets outside of the domain are reached (section 16.6 step 7); of several for one target the last counts
   pub ways : List Way
   -- the realm of the proxy, whose credentials do not go on with a request (section 22.3)

@@ -1,5 +1,5 @@
 //! A setup in the making.
-ghost use Rattle.std.specs.Prelude.{◌≡◌, ◌≤◌, IfOk, Some, None, if◌then◌else◌};
+ghost use Rattle.std.specs.Prelude.{◌≡◌, ◌≤◌, true, IfOk, Some, None, if◌then◌else◌};
 ghost use Rattle.std.specs.Option.{option_map};
 ghost use Rattle.sip_uri.specs.Reading.{read_uri};
 ghost use Rattle.fork_rank.specs.Field.{most_q};
@@ -43,6 +43,7 @@ pub struct SetupParts<A: Allocator = Global> {
     rules: Rules,
     locations: ListedLocations<A>,
     ring: u64,
+    large: bool,
 }
 
 impl<A: Allocator> Model for SetupParts<A> {
@@ -64,6 +65,7 @@ impl<A: Allocator> Model for SetupParts<A> {
       stamps = false;
       reasons = false;
       streams = false;
+      large = p.large;
       ways = [];
       realm = None;
       token = None;
@@ -91,6 +93,13 @@ impl<A: Allocator> SetupParts<A> {
     {
         self.ring = longest;
     }
+
+    /// Requests that are too large for datagrams go over TCP, where there are connections (RFC 3261 section 18.1.1).
+    pub fn set_large(&mut self)
+        ensures { self.new ≡ record self.old { large = true } }
+    {
+        self.large = true;
+    }
 }
 
 impl<A: Allocator + Clone> SetupParts<A> {
@@ -109,6 +118,7 @@ impl<A: Allocator + Clone> SetupParts<A> {
             rules: Rules::usual(),
             locations: ListedLocations::new(alloc)?,
             ring: USUAL_LONGEST,
+            large: false,
         })
     }
 
@@ -180,6 +190,7 @@ impl<A: Allocator + Clone> SetupParts<A> {
             stamps: false,
             reasons: false,
             streams: false,
+            large: self.large,
             ways: None,
             realm: None,
             token: None,

@@ -26,7 +26,7 @@ use std::alloc::{AllocError, Allocator, Global};
 use std::marker::Model;
 
 /// What a proxy is set up with. `read` makes one, and `with_own_port`, `for_a_service`, `ringing`, `recording`, `stamping`,
-/// `giving_reasons`, `with_streams`, `of_realm`, `with_token`, `at_moment` and `with_ways` others of it.
+/// `giving_reasons`, `with_streams`, `with_large_by_streams`, `of_realm`, `with_token`, `at_moment` and `with_ways` others of it.
 #[derive(Drop)]
 pub struct Setup<A: Allocator = Global> {
     pub(crate) own: Own,
@@ -41,6 +41,7 @@ pub struct Setup<A: Allocator = Global> {
     pub(crate) stamps: bool,
     pub(crate) reasons: bool,
     pub(crate) streams: bool,
+    pub(crate) large: bool,
     pub(crate) ways: Option<Vec<Way<A>, A>>,
     pub(crate) realm: Option<Vec<u8, A>>,
     pub(crate) token: Option<DialogToken>,
@@ -67,6 +68,7 @@ impl<A: Allocator> Model for Setup<A> {
       stamps = s.stamps;
       reasons = s.reasons;
       streams = s.streams;
+      large = s.large;
       ways = ways_in s.ways;
       realm = option_map (λ r. r.items) s.realm;
       token = s.token;
@@ -228,6 +230,21 @@ impl<A: Allocator> Setup<A> {
         self
     }
 
+    /// Whether requests that are too large for datagrams go over TCP, where there are connections (RFC 3261 section 18.1.1).
+    pub fn is_large_by_streams(&self) -> bool
+        ensures { result ≡ self.now.large }
+    {
+        self.large
+    }
+
+    /// The same setup, but where there are connections requests that are too large for datagrams go over TCP (RFC 3261 section 18.1.1).
+    pub fn with_large_by_streams(mut self) -> Setup<A>
+        ensures { result ≡ record self { large = true } }
+    {
+        self.large = true;
+        self
+    }
+
     /// The realm of the proxy, if it has one: credentials for it do not go on with a request (RFC 3261 section 22.3).
     pub fn realm(&self) -> Option<&[u8]>
         ensures { option_copied result ≡ self.now.realm }
@@ -310,6 +327,7 @@ impl<A: Allocator + Clone> Setup<A> {
             stamps: self.stamps,
             reasons: self.reasons,
             streams: self.streams,
+            large: self.large,
             ways,
             realm,
             token: self.token,

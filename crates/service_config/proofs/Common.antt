@@ -17,7 +17,7 @@ pub use Rattle.fork_rank.proofs.laws.Field.{found_map, found_one, found_then, nu
 pub use Rattle.sip_digest.specs.Algorithm.{algorithms_named}
 pub use Rattle.sip_digest.specs.declared.algorithm.Algorithms.{Algorithms}
 pub use Rattle.service_config.specs.Kind.{is_from_domain, is_whole, kind_of, may_follow, place_of}
-pub use Rattle.service_config.specs.Line.{AreExpirations, CommentLine, ExpiresLine, GatewayLine, HasParts, IsLine, IsLocationLine, IsRing, IsRingIfAny, Line, LocationLine, RealmLine, RingLine, SetupLine, StrangersLine, TrustLine, algorithms_text}
+pub use Rattle.service_config.specs.Line.{AreExpirations, CommentLine, ExpiresLine, GatewayLine, HasParts, IsLine, IsLocationLine, IsRing, IsRingIfAny, Line, LocationLine, RealmLine, RingLine, SetupLine, LargeLine, StrangersLine, TrustLine, algorithms_text}
 pub use Rattle.service_config.specs.Line.{are_expirations, expirations_text, is_location, is_no_lf, is_realm, is_realm_byte, line_text, most_expiration, most_ring, says_nothing}
 pub use Rattle.service_config.specs.Net.{IsNet, address_number, block, net_text}
 pub use Rattle.service_config.specs.declared.expirations.Expirations.{Expirations}

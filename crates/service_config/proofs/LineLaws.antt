@@ -1,7 +1,7 @@
 -- A line is read exactly where it is the spelling of a line: what is read is spelled so.
 use Rattle.service_config.proofs.Common.{◌≡◌, ℕ, ◌≤◌, Bool, true, false, cond, List, [], ◌∷◌, ◌++◌, Option, Some, None, refl, ap, sym, subst, ◌∙◌, arith, codes, option_map, option_and_then, bytes_eq, bytes_eq-Decides, cond_some, same_Some, eqb-true, list_all, decimal}
 use Rattle.service_config.proofs.Common.{Lacks, Lacks-pass, behind, cut, is, cut_joins, cut_lacks, number_spelled, plain_number_within, most_q, number_before, number_from, found_map, found_one, found_then, number_before_found, number_from_found, is_no_lf, ◌==◌, ◌%◌}
-use Rattle.service_config.proofs.Common.{Algorithms, algorithms_named, AreExpirations, Expirations, CommentLine, GatewayLine, HasParts, IsLine, IsNet, Line, LocationLine, Net, RealmLine, RingLine, SetupLine, StrangersLine, TrustLine, ExpiresLine}
+use Rattle.service_config.proofs.Common.{Algorithms, algorithms_named, AreExpirations, Expirations, CommentLine, GatewayLine, HasParts, IsLine, IsNet, Line, LocationLine, Net, RealmLine, RingLine, SetupLine, LargeLine, StrangersLine, TrustLine, ExpiresLine}
 use Rattle.service_config.proofs.Common.{address_number, algorithms_text, are_expirations, block, expirations_text, is_realm, line_text, most_expiration, most_ring, net_text, says_nothing}
 use Rattle.sip_digest.specs.declared.algorithm.Algorithms.TheVariants as algorithms
 use Rattle.sip_via.specs.Address.{address_text}
@@ -171,7 +171,8 @@ plain_found : (text : List ℕ) (line : Line) → read_plain text ≡ Some line 
 plain_found text line =
     found_one (says_nothing text) (CommentLine text) line _ (λ l. Found text l) (λ t. (refl, t))
     (found_one (bytes_eq text (codes "strangers")) StrangersLine line _ (λ l. Found text l) (λ t. ((bytes_eq-Decides text (codes "strangers")).0 t, tt))
-    (cut_found text line))
+    (found_one (bytes_eq text (codes "large tcp")) LargeLine line _ (λ l. Found text l) (λ t. ((bytes_eq-Decides text (codes "large tcp")).0 t, tt))
+    (cut_found text line)))
 
 -- what is read is the spelling of a line
 pub line_found : (text : List ℕ) (line : Line) → read_line text ≡ Some line → (text ≡ line_text line) × IsLine line

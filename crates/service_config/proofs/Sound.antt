@@ -1,6 +1,6 @@
 -- Lines one after another keep what a setup has to be.
 use Rattle.service_config.proofs.Common.{◌≡◌, ℕ, ◌≤◌, Bool, true, false, cond, List, [], ◌∷◌, ◌++◌, length, Option, Some, None, is_some, refl, ap, sym, subst, ◌∙◌, arith, append_assoc, append-nil, option_map, option_and_then, and_parts, cond_some, same_Some, found_map, found_then}
-use Rattle.service_config.proofs.Common.{◌==◌, ◌&&◌, ◌||◌, HasParts, Line, SetupLine, RingLine, RealmLine, ExpiresLine, StrangersLine, TrustLine, GatewayLine, LocationLine, CommentLine, is_from_domain, is_whole, kind_of, may_follow, place_of}
+use Rattle.service_config.proofs.Common.{◌==◌, ◌&&◌, ◌||◌, HasParts, Line, SetupLine, RingLine, RealmLine, ExpiresLine, LargeLine, StrangersLine, TrustLine, GatewayLine, LocationLine, CommentLine, is_from_domain, is_whole, kind_of, may_follow, place_of}
 use Rattle.std.specs.Prelude.{nat_le}
 use Rattle.fork_rank.specs.Field.{most_q}
 use Rattle.sip_uri.specs.Host.{is_host}
@@ -124,6 +124,8 @@ sound_next draft next (SetupLine (setup.DepthLine depth)) h p e =
 sound_next draft next (SetupLine (setup.LocationLine user q uri)) h p e = let wrong : true ≡ false = p.1 in absurd cc
 sound_next draft next (RingLine seconds) h p e =
     kind_sound draft next kind.Ring (RingLine seconds) (λ t follows at. plain_sound draft kind.Ring t _ h refl refl (record { port = refl; domain = refl; locations = λ kept. kept }) follows at) _ refl e
+sound_next draft next LargeLine h p e =
+    kind_sound draft next kind.Large LargeLine (λ t follows at. plain_sound draft kind.Large t _ h refl refl (record { port = refl; domain = refl; locations = λ kept. kept }) follows at) _ refl e
 sound_next draft next (RealmLine realm algorithms) h p e =
     kind_sound draft next kind.Realm (RealmLine realm algorithms) (λ t follows at. plain_sound draft kind.Realm t _ h refl refl (all_same draft.settings.setup) follows at) _ refl e
 sound_next draft next (ExpiresLine times) h p e =

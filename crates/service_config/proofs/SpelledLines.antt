@@ -1,7 +1,7 @@
 -- Each spelling of a line is read as that line.
 use Rattle.service_config.proofs.Common.{◌≡◌, ℕ, ◌≤◌, Bool, true, false, cond, List, [], ◌∷◌, ◌++◌, Option, Some, None, refl, ap, sym, ◌∙◌, arith, codes, option_map, option_and_then, and_parts, eq-eqb, bytes_eq, list_all, length, decimal, AllByRecursion}
 use Rattle.service_config.proofs.Common.{Lacks, Lacks-append, Lacks-pass, behind, cut, is, cut_again, decimal_lacks, number_read, plain_number_within, most_q, number_before, number_from, number_before_read, number_from_read, is_no_lf, ◌==◌, ◌%◌, ◌&&◌}
-use Rattle.service_config.proofs.Common.{Algorithms, algorithms_named, AreExpirations, Expirations, CommentLine, GatewayLine, HasParts, IsLine, IsLocationLine, IsNet, IsRing, IsRingIfAny, Line, LocationLine, Net, RealmLine, RingLine, SetupLine, StrangersLine, TrustLine, ExpiresLine}
+use Rattle.service_config.proofs.Common.{Algorithms, algorithms_named, AreExpirations, Expirations, CommentLine, GatewayLine, HasParts, IsLine, IsLocationLine, IsNet, IsRing, IsRingIfAny, Line, LocationLine, Net, RealmLine, RingLine, SetupLine, LargeLine, StrangersLine, TrustLine, ExpiresLine}
 use Rattle.service_config.proofs.Common.{address_number, algorithms_text, are_expirations, block, expirations_text, is_location, is_realm, is_realm_byte, line_text, most_expiration, most_ring, net_text, says_nothing}
 use Rattle.std.specs.Prelude.{nat_le}
 use Rattle.std.proofs.lemmas.Bool.{eqb-false}
@@ -87,6 +87,7 @@ plain_read (SetupLine (setup.LocationLine user q uri)) h = let none : true ≡ f
 plain_read (RingLine seconds) h =
     let within : seconds ≤ 181 = h.1 in
     ap (option_map RingLine) (number_from_read 1 most_ring seconds h.0 h.1 (omega arith))
+plain_read LargeLine h = refl
 plain_read (RealmLine realm algorithms) h = realm_read realm algorithms h
 plain_read (ExpiresLine times) h = ap (option_map ExpiresLine) (expirations_read times h)
 plain_read StrangersLine h = refl
@@ -98,7 +99,7 @@ plain_read (LocationLine user q uri seconds) h =
     ap (option_and_then of_setup) (setup_laws.line_read (setup.LocationLine user q (uri ++ behind 32 (option_map decimal seconds))) (h.user_is, h.q_within))
     ∙ location_read user q uri seconds h
 plain_read (CommentLine text) h =
-    ap (λ (b : Bool). cond b (Some (CommentLine text)) (cond (bytes_eq text (codes "strangers")) (Some StrangersLine) (read_cut text (cut (is 32) text)))) h
+    ap (λ (b : Bool). cond b (Some (CommentLine text)) (cond (bytes_eq text (codes "strangers")) (Some StrangersLine) (cond (bytes_eq text (codes "large tcp")) (Some LargeLine) (read_cut text (cut (is 32) text))))) h
 
 pub line_read : (line : Line) → IsLine line → read_line (line_text line) ≡ Some line
 line_read line h =

@@ -1,7 +1,7 @@
 -- The kinds of lines, and in which order they stand.
 use Rattle.std.specs.Prelude.{ℕ, ◌&&◌, ◌||◌, ◌==◌, nat_le, nat_lt, Bool, true, false, Option, Some, None}
 use Rattle.proxy_config.specs.Line as setup
-use Rattle.service_config.specs.Line.{Line, SetupLine, RingLine, RealmLine, ExpiresLine, StrangersLine, TrustLine, GatewayLine, LocationLine, CommentLine}
+use Rattle.service_config.specs.Line.{Line, SetupLine, RingLine, RealmLine, ExpiresLine, LargeLine, StrangersLine, TrustLine, GatewayLine, LocationLine, CommentLine}
 use Rattle.service_config.specs.declared.kind.LineKind.{LineKind}
 use Rattle.service_config.specs.declared.kind.LineKind.TheVariants as kind
 
@@ -17,6 +17,7 @@ setup_kind (setup.LocationLine user q uri) = kind.Location
 abbrev pub kind_of : Line → Option LineKind
 kind_of (SetupLine line) = Some (setup_kind line)
 kind_of (RingLine seconds) = Some kind.Ring
+kind_of LargeLine = Some kind.Large
 kind_of (RealmLine realm algorithms) = Some kind.Realm
 kind_of (ExpiresLine times) = Some kind.Expires
 kind_of StrangersLine = Some kind.Strangers
@@ -33,12 +34,13 @@ place_of kind.Domain = 2
 place_of kind.Prefer = 3
 place_of kind.Depth = 4
 place_of kind.Ring = 5
-place_of kind.Realm = 6
-place_of kind.Expires = 7
-place_of kind.Strangers = 8
-place_of kind.Trust = 9
-place_of kind.Gateway = 10
-place_of kind.Location = 11
+place_of kind.Large = 6
+place_of kind.Realm = 7
+place_of kind.Expires = 8
+place_of kind.Strangers = 9
+place_of kind.Trust = 10
+place_of kind.Gateway = 11
+place_of kind.Location = 12
 
 abbrev pub may_repeat : LineKind → Bool
 may_repeat kind.Trust = true

@@ -17,6 +17,8 @@ pub data Line : Type 0 where
   -- own, instance, domain, prefer and depth, as in the text of a setup
   SetupLine : setup.Line → Line
   RingLine : (seconds : ℕ) → Line
+  -- requests that are too large for datagrams go over TCP
+  LargeLine : Line
   RealmLine : (realm : List ℕ) (algorithms : Option Algorithms) → Line
   ExpiresLine : Expirations → Line
   StrangersLine : Line
@@ -40,6 +42,7 @@ expirations_text times = decimal times.least ++ 32 ∷ (decimal times.usual ++ 3
 abbrev pub line_text : Line → List ℕ
 line_text (SetupLine line) = setup.line_text line
 line_text (RingLine seconds) = codes "ring " ++ decimal seconds
+line_text LargeLine = codes "large tcp"
 line_text (RealmLine realm algorithms) = codes "realm " ++ (realm ++ behind 32 (option_map algorithms_text algorithms))
 line_text (ExpiresLine times) = codes "expires " ++ expirations_text times
 line_text StrangersLine = codes "strangers"
@@ -100,6 +103,7 @@ pub record IsLocationLine (user : List ℕ) (q : ℕ) (uri : List ℕ) (seconds 
 abbrev pub HasParts : Line → Type 0
 HasParts (SetupLine line) = setup.IsLine line × (is_location line ≡ false)
 HasParts (RingLine seconds) = IsRing seconds
+HasParts LargeLine = Unit {0}
 HasParts (RealmLine realm algorithms) = is_realm realm ≡ true
 HasParts (ExpiresLine times) = AreExpirations times
 HasParts StrangersLine = Unit {0}

@@ -9,12 +9,13 @@ use Rattle.proxy_config.specs.TextLine.{line_at}
 abbrev pub form_of_service_word : List ℕ → ServiceForm
 form_of_service_word word =
     if bytes_eq word (codes "ring") then form.Ring
+    else (if bytes_eq word (codes "large") then form.Large
     else (if bytes_eq word (codes "realm") then form.Realm
     else (if bytes_eq word (codes "expires") then form.Expires
     else (if bytes_eq word (codes "strangers") then form.Strangers
     else (if bytes_eq word (codes "trust") then form.Trust
     else (if bytes_eq word (codes "gateway") then form.Gateway
-    else form.Unknown)))))
+    else form.Unknown))))))
 
 abbrev pub service_form_of_word : List ℕ → ServiceForm
 service_form_of_word word =

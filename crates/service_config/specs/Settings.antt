@@ -12,7 +12,7 @@ use Rattle.sip_uri.specs.declared.hop.Hop.{Hop}
 use Rattle.proxy_config.specs.Line as setup
 use Rattle.proxy_config.specs.Parts as parts
 use Rattle.proxy_config.specs.Setup.{Location, Setup, is_reached, next_hop}
-use Rattle.service_config.specs.Line.{Line, SetupLine, RingLine, RealmLine, ExpiresLine, StrangersLine, TrustLine, GatewayLine, LocationLine, CommentLine}
+use Rattle.service_config.specs.Line.{Line, SetupLine, RingLine, RealmLine, ExpiresLine, LargeLine, StrangersLine, TrustLine, GatewayLine, LocationLine, CommentLine}
 use Rattle.service_config.specs.Net.{address_number, has, loopback}
 use Rattle.service_config.specs.declared.expirations.Expirations.{Expirations}
 use Rattle.service_config.specs.declared.net.Net.{Net}
@@ -129,6 +129,7 @@ with_location settings user q text seconds =
 abbrev pub with_line : Settings → Line → Option Settings
 with_line settings (SetupLine line) = in_settings settings (parts.with_line settings.setup line)
 with_line settings (RingLine seconds) = Some (record settings { setup = record settings.setup { ring = seconds * 1000 } })
+with_line settings LargeLine = Some (record settings { setup = record settings.setup { large = true } })
 with_line settings (RealmLine realm algorithms) = Some (record settings { realm = Some (record { text = realm; algorithms = algorithms_or_md5 algorithms }) })
 with_line settings (ExpiresLine times) = Some (record settings { expirations = times })
 with_line settings StrangersLine = Some (record settings { strangers = true })

@@ -11,6 +11,7 @@ pub(crate) enum LineKind {
     Prefer,
     Depth,
     Ring,
+    Large,
     Realm,
     Expires,
     Strangers,
@@ -31,12 +32,13 @@ impl LineKind {
             LineKind::Prefer => 3,
             LineKind::Depth => 4,
             LineKind::Ring => 5,
-            LineKind::Realm => 6,
-            LineKind::Expires => 7,
-            LineKind::Strangers => 8,
-            LineKind::Trust => 9,
-            LineKind::Gateway => 10,
-            LineKind::Location => 11,
+            LineKind::Large => 6,
+            LineKind::Realm => 7,
+            LineKind::Expires => 8,
+            LineKind::Strangers => 9,
+            LineKind::Trust => 10,
+            LineKind::Gateway => 11,
+            LineKind::Location => 12,
         }
     }
 

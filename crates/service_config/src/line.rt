@@ -47,6 +47,7 @@ pub(crate) enum SettingsWord {
 #[derive(Clone, Copy, Debug)]
 pub(crate) enum SettingsLine<'a> {
     Ring(u16),
+    Large,
     Realm(&'a [u8], Option<Algorithms>),
     Expires(Expirations),
     Strangers,
@@ -96,6 +97,7 @@ impl SettingsLine<'_> {
     {
         match self {
             SettingsLine::Ring(_) => Some(LineKind::Ring),
+            SettingsLine::Large => Some(LineKind::Large),
             SettingsLine::Realm(_, _) => Some(LineKind::Realm),
             SettingsLine::Expires(_) => Some(LineKind::Expires),
             SettingsLine::Strangers => Some(LineKind::Strangers),
@@ -302,6 +304,9 @@ fn read_plain(text: &[u8]) -> Option<LineReading<'_>>
     }
     if text == b"strangers".as_slice() {
         return Some(LineReading::Own(SettingsLine::Strangers));
+    }
+    if text == b"large tcp".as_slice() {
+        return Some(LineReading::Own(SettingsLine::Large));
     }
     read_cut(text)
 }

@@ -1,5 +1,5 @@
 //! Settings in the making.
-ghost use Rattle.std.specs.Prelude.{◌≡◌, ◌≤◌, ◌++◌, ◌∷◌, [], IfOk, Some, None, if◌then◌else◌};
+ghost use Rattle.std.specs.Prelude.{◌≡◌, ◌≤◌, ◌++◌, ◌∷◌, [], true, IfOk, Some, None, if◌then◌else◌};
 ghost use Rattle.std.specs.Option.{option_map};
 ghost use Rattle.fork_rank.specs.Field.{most_q};
 ghost use Rattle.service_config.specs.Line.{HasParts};
@@ -121,6 +121,12 @@ impl<A: Allocator + Clone> SettingsParts<A> {
         self.setup.set_ring(longest);
     }
 
+    fn set_large(&mut self)
+        ensures { self.new ≡ record self.old { setup = record self.old.setup { large = true } } }
+    {
+        self.setup.set_large();
+    }
+
     fn add_net(&mut self, net: Net) -> Result<(), AllocError>
         ensures { IfOk result (λ _. self.new ≡ record self.old { nets = self.old.nets ++ net ∷ [] }) }
     {
@@ -167,6 +173,7 @@ impl<A: Allocator + Clone> SettingsParts<A> {
     {
         match line {
             SettingsLine::Ring(seconds) => self.set_ring(u64::from(seconds) * 1_000),
+            SettingsLine::Large => self.set_large(),
             SettingsLine::Realm(realm, algorithms) => {
                 let text = realm.to_vec(alloc.clone()?)?;
                 self.set_realm(OwnRealm::new(text, algorithms_or_md5(algorithms)));

@@ -28,10 +28,13 @@ pub enum ServiceForm {
     #[error("`depth STEPS` stands once at most, behind domain and prefer, before ring: from 0 to 256, without leading zeros")]
     Depth,
     /// How long a branch rings.
-    #[error("`ring SECONDS` stands once at most, behind depth, before realm: from 1 to 181, without leading zeros")]
+    #[error("`ring SECONDS` stands once at most, behind depth, before large: from 1 to 181, without leading zeros")]
     Ring,
+    /// Whether large requests go over TCP.
+    #[error("`large tcp` stands once at most, exactly so, behind ring, before realm")]
+    Large,
     /// In which realm passwords are known.
-    #[error("`realm TEXT` or `realm TEXT ALGORITHMS` stands once at most, behind ring, before expires: TEXT 1 to 64 printed ASCII characters without quote and backslash; ALGORITHMS one of MD5, SHA-256, SHA-256,MD5 and MD5,SHA-256")]
+    #[error("`realm TEXT` or `realm TEXT ALGORITHMS` stands once at most, behind large, before expires: TEXT 1 to 64 printed ASCII characters without quote and backslash; ALGORITHMS one of MD5, SHA-256, SHA-256,MD5 and MD5,SHA-256")]
     Realm,
     /// For how long telephones register.
     #[error("`expires LEAST USUAL MOST` stands once at most, behind realm, before strangers: seconds, 1 <= LEAST <= USUAL <= MOST <= 604800, without leading zeros")]
@@ -49,7 +52,7 @@ pub enum ServiceForm {
     #[error("`location USER Q URI` or `location USER Q URI SECONDS` stands behind all others: USER of printed ASCII; Q from 0 to 1000; URI a sip URI of an IPv4 address, without headers or maddr and with no transport but udp; SECONDS from 1 to 181; numbers without leading zeros; a user has 256 targets at most, and none twice")]
     Location,
     /// No line begins with this word.
-    #[error("each line is empty, begins with `#`, or begins with own, instance, domain, prefer, depth, ring, realm, expires, strangers, trust, gateway or location, in lower case, and one space behind all but strangers")]
+    #[error("each line is empty, begins with `#`, or begins with own, instance, domain, prefer, depth, ring, large, realm, expires, strangers, trust, gateway or location, in lower case, and one space behind all but strangers")]
     Unknown,
     /// There is no such line.
     #[error("the text ends before this line or within it: each line is ended by a line feed, and own and domain have to be there")]
@@ -62,6 +65,8 @@ fn form_of_service_word(word: &[u8]) -> ServiceForm
 {
     if word == b"ring".as_slice() {
         ServiceForm::Ring
+    } else if word == b"large".as_slice() {
+        ServiceForm::Large
     } else if word == b"realm".as_slice() {
         ServiceForm::Realm
     } else if word == b"expires".as_slice() {

@@ -222,7 +222,7 @@ impl<A: Allocator> ServiceSettings<A> {
 impl<A: Allocator + Clone> ServiceSettings<A> {
     /// The settings that a text spells, in a run with this number. Its lines, each ended by LF, in this order: `own ADDRESS PORT`;
     /// `instance NUMBER`, without which it is the number of the run; `domain HOST`; `prefer LIST`; `depth STEPS`; `ring SECONDS`, 1
-    /// to 181, without which it is 181; `realm TEXT [ALGORITHMS]`; `expires LEAST USUAL MOST`, without which it is 60, 3600 and
+    /// to 181, without which it is 181; `large tcp`; `realm TEXT [ALGORITHMS]`; `expires LEAST USUAL MOST`, without which it is 60, 3600 and
     /// 86,400 seconds; `strangers`; any number of `trust A.B.C.D/N`; at most 16 of `gateway Q URI`; and any number of `location USER
     /// Q URI [SECONDS]`, which rings as long as `ring` says where it does not. But for `own` and `domain` each may be left out. An
     /// empty line says nothing, and neither does one that begins with `#`. What is malformed of the lines that a setup has, too, is

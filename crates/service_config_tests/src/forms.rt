@@ -5,11 +5,11 @@ use std::alloc::{AllocError, Global};
 
 /// Lines that are malformed, the last of which no line feed ends.
 const TEXT: &[u8] =
-    b"own 0.0.0.0 5060\ninstance 07\ndomain\nprefer 500,401\ndepth  7\nring 0\nrealm a\"b\nexpires 1 2\nstrangers yes\n\
+    b"own 0.0.0.0 5060\ninstance 07\ndomain\nprefer 500,401\ndepth  7\nring 0\nlarge\nrealm a\"b\nexpires 1 2\nstrangers yes\n\
 trust 10.0.0.1/8\ngateway 1000\nlocation bob\r\nRing 15\n strangers\nown";
 
 /// The numbers of its lines and of some that it has not, each with the form.
-const FORMS: [(usize, ServiceForm); 17] = [
+const FORMS: [(usize, ServiceForm); 18] = [
     (0, ServiceForm::Missing),
     (1, ServiceForm::Own),
     (2, ServiceForm::Instance),
@@ -17,16 +17,17 @@ const FORMS: [(usize, ServiceForm); 17] = [
     (4, ServiceForm::Prefer),
     (5, ServiceForm::Depth),
     (6, ServiceForm::Ring),
-    (7, ServiceForm::Realm),
-    (8, ServiceForm::Expires),
-    (9, ServiceForm::Strangers),
-    (10, ServiceForm::Trust),
-    (11, ServiceForm::Gateway),
-    (12, ServiceForm::Location),
-    (13, ServiceForm::Unknown),
+    (7, ServiceForm::Large),
+    (8, ServiceForm::Realm),
+    (9, ServiceForm::Expires),
+    (10, ServiceForm::Strangers),
+    (11, ServiceForm::Trust),
+    (12, ServiceForm::Gateway),
+    (13, ServiceForm::Location),
     (14, ServiceForm::Unknown),
-    (15, ServiceForm::Missing),
+    (15, ServiceForm::Unknown),
     (16, ServiceForm::Missing),
+    (17, ServiceForm::Missing),
 ];
 
 #[test]
@@ -56,15 +57,15 @@ fn is_told(alloc: Global, number: usize, words: &str) -> bool {
 const TOLD: [(usize, &str); 3] = [
     (
         6,
-        "line 6: malformed\n`ring SECONDS` stands once at most, behind depth, before realm: from 1 to 181, without leading zeros",
+        "line 6: malformed\n`ring SECONDS` stands once at most, behind depth, before large: from 1 to 181, without leading zeros",
     ),
     (
-        9,
-        "line 9: malformed\n`strangers` stands once at most, alone on its line, behind expires, before trust",
+        10,
+        "line 10: malformed\n`strangers` stands once at most, alone on its line, behind expires, before trust",
     ),
     (
-        15,
-        "line 15: malformed\nthe text ends before this line or within it: each line is ended by a line feed, and own and domain have to be there",
+        16,
+        "line 16: malformed\nthe text ends before this line or within it: each line is ended by a line feed, and own and domain have to be there",
     ),
 ];
 

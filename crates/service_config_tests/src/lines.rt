@@ -81,7 +81,7 @@ fn a_text_is_refused_by_its_first_malformed_line(rt: HostRuntime) {
 }
 
 /// Lines behind the first three, and the number of the first of all that is malformed, 0 where there is none.
-const BEHIND: [(&[u8], usize); 70] = [
+const BEHIND: [(&[u8], usize); 80] = [
     // ring
     (b"ring 1\n", 0),
     (b"ring 181\n", 0),
@@ -116,6 +116,17 @@ const BEHIND: [(&[u8], usize); 70] = [
         4,
     ),
     (b"realm x\nring 15\n", 5),
+    // large
+    (b"large tcp\n", 0),
+    (b"ring 15\nlarge tcp\nrealm x\n", 0),
+    (b"large\n", 4),
+    (b"large \n", 4),
+    (b"large udp\n", 4),
+    (b"large tcp \n", 4),
+    (b"large  tcp\n", 4),
+    (b"large tcp\nlarge tcp\n", 5),
+    (b"large tcp\nring 15\n", 5),
+    (b"realm x\nlarge tcp\n", 5),
     // expires
     (b"expires 1 1 1\n", 0),
     (b"expires 60 3600 604800\n", 0),

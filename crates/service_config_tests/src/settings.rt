@@ -9,7 +9,7 @@ use std::process::Abort;
 
 /// A configuration with each line.
 const TEXT: &[u8] =
-    b"# the office\n\nown 192.0.2.9 5060\ninstance 7\ndomain example.com\nprefer 404\ndepth 3\nring 15\n\
+    b"# the office\n\nown 192.0.2.9 5060\ninstance 7\ndomain example.com\nprefer 404\ndepth 3\nring 15\nlarge tcp\n\
 realm example.com SHA-256,MD5\nexpires 30 600 7200\nstrangers\ntrust 192.0.2.128/25\ngateway 1000 sip:192.0.2.20\n\
 gateway 500 sip:192.0.2.21:5080\nlocation bob 1000 sip:bob@192.0.2.4\nlocation bob 500 sip:bob@192.0.2.5 181\n\
 # voice mail\nlocation eve 1000 sip:eve@192.0.2.6 20\n";
@@ -68,6 +68,7 @@ fn check(rt: &impl Abort, settings: &ServiceSettings) {
     holds(rt, setup.instance() == 7, "the instance");
     holds(rt, setup.rules().depth() == 3, "the depth");
     holds(rt, setup.ring() == 15_000, "how long it rings");
+    holds(rt, setup.is_large_by_streams(), "large requests over TCP");
     holds(
         rt,
         ring(settings, &[15_000, 181_000, 20_000]),
@@ -113,6 +114,8 @@ fn check_usual(rt: &impl Abort, settings: &ServiceSettings) {
         "it rings for three minutes",
     );
     holds(rt, ring(settings, &[181_000]), "and so does a location");
+    let is_large = settings.setup().is_large_by_streams();
+    holds(rt, !is_large, "large requests over UDP");
     holds(rt, settings.realm().is_none(), "no realm");
     let times = Expirations {
         least: 60,

@@ -8,7 +8,7 @@ use Rattle.fork_rank.specs.Field.{most_q, number_before, number_from}
 use Rattle.sip_digest.specs.Algorithm.{algorithms_named}
 use Rattle.proxy_config.specs.Line as setup
 use Rattle.proxy_config.specs.LineReading as setup_line
-use Rattle.service_config.specs.Line.{Line, SetupLine, RingLine, RealmLine, ExpiresLine, StrangersLine, TrustLine, GatewayLine, LocationLine, CommentLine, are_expirations, is_no_lf, is_realm, most_expiration, most_ring, says_nothing}
+use Rattle.service_config.specs.Line.{Line, SetupLine, RingLine, RealmLine, ExpiresLine, LargeLine, StrangersLine, TrustLine, GatewayLine, LocationLine, CommentLine, are_expirations, is_no_lf, is_realm, most_expiration, most_ring, says_nothing}
 use Rattle.service_config.specs.Net.{address_number, block}
 use Rattle.service_config.specs.declared.expirations.Expirations.{Expirations}
 use Rattle.service_config.specs.declared.line.SettingsWord.{SettingsWord}
@@ -110,7 +110,8 @@ read_cut text (word, Some rest) = read_worded text rest (word_of word)
 abbrev pub read_plain : List ℕ → Option Line
 read_plain text =
     if says_nothing text then Some (CommentLine text)
-    else (if bytes_eq text (codes "strangers") then Some StrangersLine else read_cut text (cut (is 32) text))
+    else (if bytes_eq text (codes "strangers") then Some StrangersLine
+    else (if bytes_eq text (codes "large tcp") then Some LargeLine else read_cut text (cut (is 32) text)))
 
 abbrev pub read_line : List ℕ → Option Line
 read_line text = if list_all is_no_lf text then read_plain text else None

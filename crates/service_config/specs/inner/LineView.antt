@@ -12,6 +12,7 @@ use Rattle.service_config.specs.inner.LineReading.{of_setup}
 
 abbrev pub line_of : SettingsLine → spec.Line
 line_of (line.Ring seconds) = spec.RingLine seconds
+line_of line.Large = spec.LargeLine
 line_of (line.Realm realm algorithms) = spec.RealmLine realm.now algorithms
 line_of (line.Expires times) = spec.ExpiresLine times
 line_of line.Strangers = spec.StrangersLine

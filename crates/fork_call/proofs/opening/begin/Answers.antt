@@ -5,7 +5,7 @@ use Rattle.fork_call.proofs.opening.begin.Goals as goal
 
 pub begin-requires : goal.begin-requires
 begin-requires g c =
-    record { destinations = as_many (destination_of_row c.args.candidates.now) c.in_ok-destinations.destinations.items (table_of c.in_ok-book.book).rows c.in_ok-destinations.ensures }
+    record { destinations = as_many (destination_of_row c.args.opened.large c.args.candidates.now) c.in_ok-destinations.destinations.items (table_of c.in_ok-book.book).rows c.in_ok-destinations.ensures }
 
 pub returns : goal.returns
 returns g c =

@@ -8,6 +8,6 @@ destination_at-requires-clause-there g c =
 
 pub loop-n-preserved : goal.loop-n-preserved
 loop-n-preserved g c =
-    destinations_more c.args.candidates.now (table_of c.args.book.now).rows c.loop-n.destinations.items c.push.new.self.items
+    destinations_more c.args.opened.now.large c.args.candidates.now (table_of c.args.book.now).rows c.loop-n.destinations.items c.push.new.self.items
     c.loop-n.n c.row_place-place.result c.in_ok-destination_at.field-0
     c.loop-n.invariant c.in_ok-push.ensures.items c.row_place-place.ensures c.in_ok-destination_at.ensures
