@@ -20,6 +20,7 @@ opened_with o = record {
   route = o.route;
   tried = o.tried;
   record_route = option_map (λ v. v.items) o.record_route;
+  stream_record_route = option_map (λ v. v.items) o.stream_record_route;
   stamps = o.stamps;
   reasons = o.reasons;
   ring = o.ring;
@@ -31,5 +32,6 @@ pub record IsOpenedRequest (opened : OpenedRequest) (key : List ℕ) (invite : B
   pub request : is_request opened.request.start ≡ true
   pub hops : IfSome (first_value hops_name opened.request.headers) IsHops
   pub record_route : IfSome opened.record_route (λ value. IsTrue (is_value value))
+  pub stream_record_route : IfSome opened.stream_record_route (λ value. IsTrue (is_value value))
   pub key_is : key ≡ loop_key opened.request
   pub invite_is : invite ≡ is_invite opened

@@ -11,7 +11,7 @@ ghost use Rattle.sip_route.specs.Hops.{IsHops, hops_name};
 ghost use Rattle.sip_build.specs.Forwarding.{is_request};
 ghost use Rattle.fork_rank.specs.KindView as kinds;
 ghost use Rattle.call_model.specs.Built.{ack_to, cancel_to, request_to};
-ghost use Rattle.call_model.specs.OpenedRequest.{branch_at, by_connection, is_invite, kind_of, sized_hop};
+ghost use Rattle.call_model.specs.OpenedRequest.{branch_at, by_connection, is_invite, kind_of, recorded_to, sized_hop};
 ghost use Rattle.call_branch.specs.BranchInside.{ack_made};
 ghost use Rattle.call_branch.specs.OpenedRequestInside.{opened_with};
 
@@ -47,9 +47,11 @@ pub struct Opening<A: Allocator = Global> {
     /// Which contacts of a 3xx are tried: none where the proxy is not responsible for the Request-URI of the request (RFC 3261
     /// section 16.5).
     pub tried: TriedContacts,
-    /// The value of the Record-Route line that the request gets on its way to each target, where it gets one (RFC 3261 section
+    /// The value of the Record-Route line that the request gets on its way to each target over UDP, where it gets one (RFC 3261 section
     /// 16.6 step 4).
     pub record_route: Option<Vec<u8, A>>,
+    /// That of those over connections.
+    pub stream_record_route: Option<Vec<u8, A>>,
     /// Whether the 100 to the request takes its Timestamp line (RFC 3261 section 8.2.6.1).
     pub stamps: bool,
     /// Whether the CANCELs of its branches say why they are sent (RFC 3326).
@@ -97,6 +99,7 @@ impl<A: Allocator> OpenedRequest<A> {
         requires request { is_request opening.request.start ≡ true }
         requires hops { IfSome (first_value hops_name opening.request.headers) IsHops }
         requires record_route { IfSome (option_map (λ v. v.items) opening.record_route) (λ value. IsTrue (is_value value)) }
+        requires stream_record_route { IfSome (option_map (λ v. v.items) opening.stream_record_route) (λ value. IsTrue (is_value value)) }
         ensures { result ≡ opened_with opening }
     {
         let key = loop_key(&opening.request);
@@ -201,7 +204,8 @@ impl<A: Allocator> OpenedRequest<A> {
         }
     }
 
-    /// The value of the Record-Route line that the requests to the targets get, where they get one (RFC 3261 section 16.6 step 4).
+    /// The value of the Record-Route line that the requests to the targets over UDP get, where they get one (RFC 3261 section 16.6 step
+    /// 4).
     fn record_route(&self) -> Option<&[u8]>
         ensures value { option_copied result ≡ self.now.record_route }
         ensures good { IfSome (option_copied result) (λ value. IsTrue (is_value value)) }
@@ -209,6 +213,28 @@ impl<A: Allocator> OpenedRequest<A> {
         match &self.opening.record_route {
             Some(value) => Some(value),
             None => None,
+        }
+    }
+
+    /// That of the requests over connections.
+    fn stream_record_route(&self) -> Option<&[u8]>
+        ensures value { option_copied result ≡ self.now.stream_record_route }
+        ensures good { IfSome (option_copied result) (λ value. IsTrue (is_value value)) }
+    {
+        match &self.opening.stream_record_route {
+            Some(value) => Some(value),
+            None => None,
+        }
+    }
+
+    /// That of the requests over this transport.
+    fn recorded_to(&self, transport: Transport) -> Option<&[u8]>
+        ensures value { option_copied result ≡ recorded_to self.now transport }
+        ensures good { IfSome (option_copied result) (λ value. IsTrue (is_value value)) }
+    {
+        match transport {
+            Transport::Udp => self.record_route(),
+            Transport::Tcp | Transport::Back(_) => self.stream_record_route(),
         }
     }
 
@@ -267,7 +293,7 @@ impl<A: Allocator + Clone> OpenedRequest<A> {
             destination.uri(),
             self.own_to(destination),
             &branch,
-            self.record_route(),
+            self.recorded_to(destination.hop().transport),
             &mut bytes,
         )?;
         Ok(bytes)

@@ -14,7 +14,7 @@ use Rattle.sip_build.specs.Requests.{ack_of, cancel_of}
 use Rattle.sip_build.specs.Upward.{upward_of}
 use Rattle.sip_via.specs.OwnVia.{over}
 use Rattle.call_model.specs.declared.cause.Cause.{Cause}
-use Rattle.call_model.specs.OpenedRequest.{OpenedRequest, Destination, branch_at}
+use Rattle.call_model.specs.OpenedRequest.{OpenedRequest, Destination, branch_at, recorded_to}
 use Rattle.call_model.specs.Branch.{Branch}
 use Rattle.call_model.specs.Server.{Owed, Trying, Passed, Final, Again, CancelOk}
 use Rattle.call_model.specs.Call.{Call, rows_of, nth_branch}
@@ -29,7 +29,7 @@ pub record Datagram : Type 0 where
 -- the request as it goes to target n, over the transport of its hop (section 16.6)
 abbrev pub request_to : OpenedRequest → Destination → ℕ → MessageText
 request_to opened destination n =
-    forwarded opened.request destination.uri (over opened.own destination.hop.transport) (branch_at opened n) opened.record_route
+    forwarded opened.request destination.uri (over opened.own destination.hop.transport) (branch_at opened n) (recorded_to opened destination.hop.transport)
 
 -- the ACK for a failure of branch n (section 17.1.1.3)
 abbrev pub ack_to : OpenedRequest → Destination → ℕ → MessageText → MessageText

@@ -25,8 +25,10 @@ pub record OpenedRequest : Type 0 where
   pub route : Option Hop
   -- which contacts of a 3xx are tried: none where the proxy is not responsible for the Request-URI (section 16.5)
   pub tried : TriedContacts
-  -- the value of the Record-Route line that its requests take, if they take one (section 16.6 step 4)
+  -- the value of the Record-Route line that its requests over UDP take, if they take one (section 16.6 step 4)
   pub record_route : Option (List ℕ)
+  -- that of those over connections
+  pub stream_record_route : Option (List ℕ)
   -- its 100 takes its Timestamp line (section 8.2.6.1)
   pub stamps : Bool
   -- its CANCELs say why they are sent (RFC 3326)
@@ -50,6 +52,12 @@ kind_of opened = if is_invite opened then Invite else Other
 abbrev pub branch_at : OpenedRequest → ℕ → BranchName
 branch_at opened n =
     record { key = loop_key opened.request; instance = opened.instance; context = opened.number; target = n }
+
+-- the value of the Record-Route line that its requests over this transport take
+abbrev pub recorded_to : OpenedRequest → Transport → Option (List ℕ)
+recorded_to opened Udp = opened.record_route
+recorded_to opened Tcp = opened.stream_record_route
+recorded_to opened (Back port) = opened.stream_record_route
 
 -- where the request to a target goes: its URI, and the hop that leads there (section 16.6 steps 2, 6 and 7)
 pub record Destination : Type 0 where

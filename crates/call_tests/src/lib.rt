@@ -35,6 +35,8 @@ mod places;
 #[cfg(test)]
 mod recipients;
 #[cfg(test)]
+mod record_routes;
+#[cfg(test)]
 mod requests;
 #[cfg(test)]
 mod response_classes;

@@ -268,6 +268,7 @@ fn fixed_by(request: Message<Global>) -> Option<OpenedRequest> {
             route: None,
             tried: TriedContacts::OverUdp,
             record_route: None,
+            stream_record_route: None,
             stamps: false,
             reasons: true,
             ring: 181_000,

@@ -17,7 +17,7 @@ use Rattle.proxy_routing.specs.declared.unrouted.Unrouted.{Unrouted}
 use Rattle.proxy_routing.specs.declared.unrouted.Unrouted.TheVariants as unrouted
 use Rattle.proxy_routing.specs.Admission.{IsPrepared, asks_extension}
 use Rattle.proxy_routing.specs.Unrouted.{IfRejected, IsGivenBack, IsTurnedBack}
-use Rattle.fork_call.specs.Opening.{Asks, IsOpenable, IsRefused, IsRefusedFor, IsUnreachable, Opens, Reaches, Refuses, candidates_for, large_of, opened_of, record_route_of, tried_by}
+use Rattle.fork_call.specs.Opening.{Asks, IsOpenable, IsRefused, IsRefusedFor, IsUnreachable, Opens, Reaches, Refuses, came_by_stream, candidates_for, is_stream, large_of, opened_of, record_route_of, stream_record_route_of, tried_by}
 use Rattle.call_model.specs.Call.{numbered}
 use Rattle.fork_call.specs.Prepared.{IsPreparedAs, IsStoppedFor, IsUnreachableAs, Prepared, is_found_first}
 use Rattle.fork_call.specs.inner.Refused.{AsksAs, HasTarget}
@@ -147,17 +147,23 @@ some_if cs slice len none test false_is same long e =
     let is_none : none ≡ true = test ∙ ap (λ (k : ℕ). k == 0) zero_len in
     absurd (let a : true ≡ false = sym is_none ∙ false_is in cc)
 
-pub fixed_so : (setup : Setup) (number : ℕ) (request : MessageText) (source : Hop) (uri : Uri) (own : Own) (instance : ℕ) (caller : Hop) (route : Option Hop) (inside streams : Bool) (recorded : Option (List ℕ))
+pub fixed_so : (setup : Setup) (number : ℕ) (request : MessageText) (source : Hop) (uri : Uri) (own : Own) (instance : ℕ) (caller : Hop) (route : Option Hop) (inside streams : Bool) (recorded streamed : Option (List ℕ)) (from : Bool)
     (tried : TriedContacts) (stamps reasons : Bool) (ring : ℕ) (large : Bool) (first : FirstRoute) (opened : OpenedRequest)
-    → opened ≡ record { number = number; own = own; instance = instance; request = request; caller = caller; route = route; tried = tried; record_route = recorded; stamps = stamps; reasons = reasons; ring = ring; large = large }
+    → opened ≡ record { number = number; own = own; instance = instance; request = request; caller = caller; route = route; tried = tried; record_route = recorded; stream_record_route = streamed; stamps = stamps; reasons = reasons; ring = ring; large = large }
     → own ≡ setup.own → instance ≡ setup.instance → caller ≡ reply_of (via_of (top_value request)) source
     → route ≡ hop_if_any streams first → first ≡ first_route request → inside ≡ is_domain setup uri → tried ≡ tried_by inside streams → streams ≡ setup.streams
-    → recorded ≡ record_route_of setup request → stamps ≡ setup.stamps → reasons ≡ setup.reasons → ring ≡ setup.ring → large ≡ large_of setup request uri recorded → opened ≡ opened_of setup number request source uri
-fixed_so setup number request source uri own instance caller route inside streams recorded tried stamps reasons ring large first opened e p q r s t u a b v w x y z =
+    → from ≡ is_stream caller.transport → recorded ≡ record_route_of setup request from false → streamed ≡ stream_record_route_of setup.streams setup request from
+    → stamps ≡ setup.stamps → reasons ≡ setup.reasons → ring ≡ setup.ring → large ≡ large_of setup request uri recorded → opened ≡ opened_of setup number request source uri
+fixed_so setup number request source uri own instance caller route inside streams recorded streamed from tried stamps reasons ring large first opened e p q r s t u a b f v o w x y z =
     let destination : route ≡ hop_if_any setup.streams (first_route request) =
     s ∙ ap (hop_if_any streams) t ∙ ap (λ (x : Bool). hop_if_any x (first_route request)) b in
     let which : tried ≡ tried_by (is_domain setup uri) setup.streams = a ∙ ap (λ (x : Bool). tried_by x streams) u ∙ ap (tried_by (is_domain setup uri)) b in
-    let sized : large ≡ large_of setup request uri (record_route_of setup request) = z ∙ ap (λ (value : Option (List ℕ)). large_of setup request uri value) v in
+    let came : from ≡ came_by_stream request source = f ∙ ap (λ (h : Hop). is_stream h.transport) r in
+    let by_datagram : recorded ≡ record_route_of setup request (came_by_stream request source) false = v ∙ ap (λ (x : Bool). record_route_of setup request x false) came in
+    let by_stream : streamed ≡ stream_record_route_of setup.streams setup request (came_by_stream request source) =
+    o ∙ ap (λ (x : Bool). stream_record_route_of setup.streams setup request x) came in
+    let sized : large ≡ large_of setup request uri (record_route_of setup request (came_by_stream request source) false) =
+    z ∙ ap (λ (value : Option (List ℕ)). large_of setup request uri value) by_datagram in
     e ∙ (λ k. record {
       number = number;
       own = p k;
@@ -166,7 +172,8 @@ fixed_so setup number request source uri own instance caller route inside stream
       caller = r k;
       route = destination k;
       tried = which k;
-      record_route = v k;
+      record_route = by_datagram k;
+      stream_record_route = by_stream k;
       stamps = w k;
       reasons = x k;
       ring = y k;

@@ -1,5 +1,5 @@
 -- How a call opens, and why it does not (RFC 3261 sections 16.2 to 16.6).
-use Rattle.std.specs.Prelude.{◌≡◌, ◌≢◌, ℕ, nat_lt, Bool, ◌&&◌, true, false, codes, List, [], ◌∷◌, ◌++◌, length, Option, Some, None, Ok, if◌then◌else◌}
+use Rattle.std.specs.Prelude.{◌≡◌, ◌≢◌, ℕ, nat_lt, Bool, ◌&&◌, not, true, false, codes, List, [], ◌∷◌, ◌++◌, length, Option, Some, None, option_map, Ok, if◌then◌else◌}
 use Rattle.std.specs.Fmt.{decimal}
 use Rattle.std.specs.List.{list_all}
 use Rattle.fork_model.specs.History.{opening_rows}
@@ -8,6 +8,8 @@ use Rattle.fork_model.specs.Log.{opening_log}
 use Rattle.sip_text.specs.Method.{known_method, stands_alone}
 use Rattle.sip_text.specs.Text.{MessageText, StartText, spelling}
 use Rattle.sip_uri.specs.declared.hop.Hop.{Hop}
+use Rattle.sip_uri.specs.declared.hop.Transport.{Transport}
+use Rattle.sip_uri.specs.declared.hop.Transport.TheVariants.{Udp, Tcp, Back}
 use Rattle.sip_uri.specs.Uri.{Uri}
 use Rattle.sip_branch.specs.declared.branch.BranchName.{BranchName}
 use Rattle.sip_via.specs.Received.{reply_of}
@@ -19,7 +21,6 @@ use Rattle.sip_route.specs.Loop.{call_id, loop_key}
 use Rattle.sip_route.specs.RouteValues.{first_route}
 use Rattle.sip_build.specs.Dialogs.{opens_dialog}
 use Rattle.sip_build.specs.Forwarding.{forwarded}
-use Rattle.sip_build.specs.OwnRoute.{own_route}
 use Rattle.sip_digest.specs.Stamp.{token_text}
 use Rattle.proxy_config.specs.declared.dialog_token.DialogToken.{DialogToken}
 use Rattle.proxy_config.specs.Setup.{Setup}
@@ -40,25 +41,55 @@ use Rattle.proxy_routing.specs.Targets.{CandidateTarget, candidates, has_hop, ho
 abbrev pub IsOpenable : StartText → Type 0
 IsOpenable start = stands_alone (known_method start) ≡ true
 
--- the URI of the proxy, with `lr` and a token behind that by which the proxy knows the requests of a dialog again, in angle brackets
-abbrev pub own_route_with : Own → (token : List ℕ) → List ℕ
-own_route_with own token = codes "<sip:" ++ (address_text own.addr ++ (58 ∷ (decimal own.port ++ (codes ";lr;d=" ++ (token ++ codes ">")))))
+-- a transport is one of connections
+abbrev pub is_stream : Transport → Bool
+is_stream Udp = false
+is_stream Tcp = true
+is_stream (Back port) = true
 
--- the URI by which the proxy stays on the path of a dialog with this Call-ID, with the token of the dialog where there is one
-abbrev pub dialog_route : Own → Option DialogToken → (call_id : List ℕ) → List ℕ
-dialog_route own None id = own_route own
-dialog_route own (Some token) id = own_route_with own (token_text token.secret id token.second)
+-- what says in a URI that it is reached over TCP
+abbrev pub transport_text : (stream : Bool) → List ℕ
+transport_text false = []
+transport_text true = codes ";transport=tcp"
+
+-- `lr`, and a token behind that by which the proxy knows the requests of a dialog again, where there is one
+abbrev pub route_end : (token : Option (List ℕ)) → List ℕ
+route_end None = codes ";lr>"
+route_end (Some token) = codes ";lr;d=" ++ (token ++ codes ">")
+
+-- the URI of the proxy over a transport, with these behind it, in angle brackets
+abbrev pub own_route_with : Own → (stream : Bool) → (token : Option (List ℕ)) → List ℕ
+own_route_with own stream token =
+    codes "<sip:" ++ (address_text own.addr ++ (58 ∷ (decimal own.port ++ (transport_text stream ++ route_end token))))
+
+abbrev pub text_of_token : (call_id : List ℕ) → DialogToken → List ℕ
+text_of_token id token = token_text token.secret id token.second
+
+abbrev pub two_routes : Own → (first : Bool) → (token : Option (List ℕ)) → List ℕ
+two_routes own first token = own_route_with own first token ++ (codes ", " ++ own_route_with own (not first) token)
+
+-- of a request that came over one transport and goes on over another: that of the second stands first, and where the two differ that of the
+-- first behind it (RFC 5658 section 4)
+abbrev pub dialog_routes : Own → (from to : Bool) → (token : Option (List ℕ)) → List ℕ
+dialog_routes own false false token = own_route_with own false token
+dialog_routes own true true token = own_route_with own true token
+dialog_routes own true false token = two_routes own false token
+dialog_routes own false true token = two_routes own true token
 
 -- a setup with this token in place of its own, where there is one
 abbrev pub with_token : Option DialogToken → Setup → Setup
 with_token None setup = setup
 with_token (Some token) setup = record setup { token = Some token }
 
--- the value of the Record-Route line by which the proxy stays on the path of the dialog that the request opens, where it is to
--- (section 16.6 step 4)
-abbrev pub record_route_of : Setup → MessageText → Option (List ℕ)
-record_route_of setup request =
-    if setup.records && opens_dialog request then Some (dialog_route setup.own setup.token (call_id request)) else None
+-- the value of the Record-Route line by which the proxy stays on the path of the dialog that the request opens, which came over one transport
+-- and goes on over another, where it is to (section 16.6 step 4)
+abbrev pub record_route_of : Setup → MessageText → (from to : Bool) → Option (List ℕ)
+record_route_of setup request from to =
+    if setup.records && opens_dialog request then Some (dialog_routes setup.own from to (option_map (text_of_token (call_id request)) setup.token)) else None
+
+-- that of a request that goes on over a connection, where there are any
+abbrev pub stream_record_route_of : (streams : Bool) → Setup → MessageText → (from : Bool) → Option (List ℕ)
+stream_record_route_of streams setup request from = if streams then record_route_of setup request from true else None
 
 -- which contacts of a 3xx are tried: none where the proxy is not responsible for the Request-URI (section 16.5), and those over
 -- UDP alone where it has no streams
@@ -78,6 +109,10 @@ datagram_of setup request uri recorded =
 abbrev pub large_of : Setup → MessageText → Uri → (record_route : Option (List ℕ)) → Bool
 large_of setup request uri recorded = (setup.streams && setup.large) && nat_lt 1300 (length (datagram_of setup request uri recorded))
 
+-- the request came by a connection, as its answers go by one
+abbrev pub came_by_stream : MessageText → Hop → Bool
+came_by_stream request source = is_stream (reply_of (via_of (top_value request)) source).transport
+
 -- what the request to this URI, as it was prepared, opens with; its answers go where its top Via value says (section
 -- 18.2.2), and the proxy is responsible for a URI of its domain (section 16.5)
 abbrev pub opened_of : Setup → ℕ → MessageText → Hop → Uri → OpenedRequest
@@ -89,11 +124,12 @@ opened_of setup number request source uri = record {
   caller = reply_of (via_of (top_value request)) source;
   route = hop_if_any setup.streams (first_route request);
   tried = tried_by (is_domain setup uri) setup.streams;
-  record_route = record_route_of setup request;
+  record_route = record_route_of setup request (came_by_stream request source) false;
+  stream_record_route = stream_record_route_of setup.streams setup request (came_by_stream request source);
   stamps = setup.stamps;
   reasons = setup.reasons;
   ring = setup.ring;
-  large = large_of setup request uri (record_route_of setup request);
+  large = large_of setup request uri (record_route_of setup request (came_by_stream request source) false);
 }
 
 -- a fork to these targets, of which nothing was sent yet

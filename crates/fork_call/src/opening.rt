@@ -25,7 +25,7 @@ ghost use Rattle.proxy_routing.specs.Targets.{has_hop, targets_of};
 use crate::large::is_large;
 use crate::opening_request::OpeningRequest;
 use crate::prepared_request::PreparedRequest;
-use crate::record_route::record_route_of;
+use crate::record_route::{RecordRoutes, is_stream, record_routes_of};
 use call_branch::{Destination, OpenedRequest, Opening};
 use call_caller::row_place;
 use call_model::TriedContacts;
@@ -223,8 +223,10 @@ fn open_at<A: Allocator + Clone>(
         return Err(Unrouted::Rejected(RequestRejection::NoHop, request));
     }
     let streams = setup.has_streams();
-    let record_route = record_route_of(alloc.clone()?, setup, token, &request)?;
-    let large = is_large(alloc.clone()?, setup, &request, uri, record_route.as_deref())?;
+    let from = is_stream(caller.transport);
+    let recorded = record_routes_of(alloc.clone()?, setup, token, &request, from)?;
+    let RecordRoutes { datagram, stream } = recorded;
+    let large = is_large(alloc.clone()?, setup, &request, uri, datagram.as_deref())?;
     let opened = OpenedRequest::new(Opening {
         number: NO_NUMBER,
         own: setup.own(),
@@ -233,7 +235,8 @@ fn open_at<A: Allocator + Clone>(
         caller,
         route: hop_if_any(streams, route),
         tried: tried_by(inside, streams),
-        record_route,
+        record_route: datagram,
+        stream_record_route: stream,
         stamps: setup.stamps(),
         reasons: setup.gives_reasons(),
         ring: setup.ring(),

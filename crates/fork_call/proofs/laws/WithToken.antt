@@ -15,7 +15,7 @@ use Rattle.proxy_routing.specs.declared.fault.RequestRejection.{RequestRejection
 use Rattle.proxy_routing.specs.declared.fault.RequestRejection.TheVariants.{BadRequest, Scheme, Hops, Loop, Extension, NoTarget, NoHop, NoMemory}
 use Rattle.proxy_routing.specs.declared.unrouted.Unrouted.{Unrouted}
 use Rattle.proxy_routing.specs.declared.unrouted.Unrouted.TheVariants as unrouted
-use Rattle.fork_call.specs.Opening.{IsRefusedFor, Reaches, large_of, opened_of, record_route_of, tried_by, with_token}
+use Rattle.fork_call.specs.Opening.{IsRefusedFor, Reaches, is_stream, large_of, opened_of, record_route_of, stream_record_route_of, tried_by, with_token}
 use Rattle.fork_call.specs.Prepared.{IsPreparedAs, Prepared}
 use Rattle.fork_call.proofs.OpenedCalls.{fixed_so, reaches}
 
@@ -60,12 +60,13 @@ module _ {A : Type 0} where
 
 -- ---- the call that opens
 
-pub fixed_with : (token : Option DialogToken) (setup : Setup) (number : ℕ) (request : MessageText) (source : Hop) (uri : Uri) (own : Own) (instance : ℕ) (caller : Hop) (route : Option Hop) (inside streams : Bool) (recorded : Option (List ℕ))
+pub fixed_with : (token : Option DialogToken) (setup : Setup) (number : ℕ) (request : MessageText) (source : Hop) (uri : Uri) (own : Own) (instance : ℕ) (caller : Hop) (route : Option Hop) (inside streams : Bool) (recorded streamed : Option (List ℕ)) (from : Bool)
     (tried : TriedContacts) (stamps reasons : Bool) (ring : ℕ) (large : Bool) (first : FirstRoute) (opened : OpenedRequest)
-    → opened ≡ record { number = number; own = own; instance = instance; request = request; caller = caller; route = route; tried = tried; record_route = recorded; stamps = stamps; reasons = reasons; ring = ring; large = large }
+    → opened ≡ record { number = number; own = own; instance = instance; request = request; caller = caller; route = route; tried = tried; record_route = recorded; stream_record_route = streamed; stamps = stamps; reasons = reasons; ring = ring; large = large }
     → own ≡ setup.own → instance ≡ setup.instance → caller ≡ reply_of (via_of (top_value request)) source
     → route ≡ hop_if_any streams first → first ≡ first_route request → inside ≡ is_domain setup uri → tried ≡ tried_by inside streams → streams ≡ setup.streams
-    → recorded ≡ record_route_of (with_token token setup) request → stamps ≡ setup.stamps → reasons ≡ setup.reasons → ring ≡ setup.ring
+    → from ≡ is_stream caller.transport → recorded ≡ record_route_of (with_token token setup) request from false → streamed ≡ stream_record_route_of setup.streams (with_token token setup) request from
+    → stamps ≡ setup.stamps → reasons ≡ setup.reasons → ring ≡ setup.ring
     → large ≡ large_of setup request uri recorded → opened ≡ opened_of (with_token token setup) number request source uri
 fixed_with None setup = fixed_so setup
 fixed_with (Some token) setup = fixed_so (with_token (Some token) setup)

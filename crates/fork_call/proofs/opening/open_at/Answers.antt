@@ -20,8 +20,8 @@ returns-in-Ok-clause-opened g c =
     let hops : list_all has_hop c.deref.result.now ≡ true = let a = c.have_hops.ensures in let b = c.if-not-have_hops.false in cc in
     let inside : c.is_responsible_for-inside.result ≡ is_domain c.args.setup.now c.args.uri.now = c.is_responsible_for-inside.ensures in
     let opened = fixed_with c.args.token c.args.setup.now 0 request c.args.opening.source c.args.uri.now c.own.result c.instance.result c.args.caller
-    c.hop_if_any.result c.is_responsible_for-inside.result c.has_streams-streams.result (option_map (λ v. v.items) c.in_ok-record_route.record_route) c.tried_by.result c.stamps.result c.gives_reasons.result c.ring.result c.in_ok-large.large c.first_route-route.result c.new-opened.result c.new-opened.ensures c.own.ensures.value c.instance.ensures c.requires.caller
-    c.hop_if_any.ensures c.first_route-route.ensures inside c.tried_by.ensures c.has_streams-streams.ensures c.in_ok-record_route.ensures.value c.stamps.ensures c.gives_reasons.ensures c.ring.ensures (c.in_ok-large.ensures) in
+    c.hop_if_any.result c.is_responsible_for-inside.result c.has_streams-streams.result (option_map (λ v. v.items) c.in_ok-recorded.recorded.datagram) (option_map (λ v. v.items) c.in_ok-recorded.recorded.stream) c.is_stream-from.result c.tried_by.result c.stamps.result c.gives_reasons.result c.ring.result c.in_ok-large.large c.first_route-route.result c.new-opened.result c.new-opened.ensures c.own.ensures.value c.instance.ensures c.requires.caller
+    c.hop_if_any.ensures c.first_route-route.ensures inside c.tried_by.ensures c.has_streams-streams.ensures c.is_stream-from.ensures c.in_ok-recorded.ensures.datagram c.in_ok-recorded.ensures.stream c.stamps.ensures c.gives_reasons.ensures c.ring.ensures (c.in_ok-large.ensures) in
     let P : List CandidateTarget → Type 0 = λ cs. list_all has_hop cs ≡ true in
     let B : List CandidateTarget → Type 0 = λ cs. IsBegun c.rules.result c.new-opened.result cs c.in-Ok.state in
     reaches_with c.args.token c.args.setup.now 0 request c.args.opening.source c.args.uri.now c.rules.result c.is_responsible_for-inside.result c.first_route-route.result c.new-opened.result
