@@ -7,9 +7,8 @@ use Rattle.sip_lex.specs.Tag.{tag_in}
 use Rattle.sip_text.specs.Text.{MessageText}
 use Rattle.sip_via.specs.declared.own.Own.{Own}
 use Rattle.sip_route.specs.Loop.{call_id}
-use Rattle.sip_route.specs.Routes.{names_own}
 use Rattle.sip_digest.specs.Stamp.{IsGoodToken}
-use Rattle.authentication.specs.Dialog.{IsOfDialog, IsOwnWithToken, first_route, token_of}
+use Rattle.authentication.specs.Dialog.{IsOfDialog, IsOwnWithToken, first_route, names_home, token_of}
 
 pub false_true : IsTrue false → ⊥
 false_true e = absurd cc
@@ -23,15 +22,15 @@ none_some o x e f = absurd cc
 same_some : {X : Type 0} (o : Option X) (x y : X) → o ≡ Some x → o ≡ Some y → x ≡ y
 same_some o x y e f = cc
 
-module _ (secret : List ℕ) (own : Own) (second : ℕ) where
-  pub not_own : (id value : List ℕ) → names_own own value ≡ false → IsTrue false ↔ IsOwnWithToken secret own second id value
-  not_own id value h = (λ t. absurd (false_true t), λ is. absurd (differ (names_own own value) h is.leads_home))
+module _ (secret : List ℕ) (own route : Own) (second : ℕ) where
+  pub not_own : (id value : List ℕ) → names_home own route value ≡ false → IsTrue false ↔ IsOwnWithToken secret own route second id value
+  not_own id value h = (λ t. absurd (false_true t), λ is. absurd (differ (names_home own route value) h is.leads_home))
 
-  pub no_token : (id value : List ℕ) → token_of value ≡ None → IsTrue false ↔ IsOwnWithToken secret own second id value
+  pub no_token : (id value : List ℕ) → token_of value ≡ None → IsTrue false ↔ IsOwnWithToken secret own route second id value
   no_token id value h = (λ t. absurd (false_true t), λ is. absurd (none_some (token_of value) is.token h is.has_token))
 
-  pub with_token : (id value token : List ℕ) (good : Bool) → names_own own value ≡ true → token_of value ≡ Some token → IsTrue good ↔ IsGoodToken secret id second token
-      → IsTrue good ↔ IsOwnWithToken secret own second id value
+  pub with_token : (id value token : List ℕ) (good : Bool) → names_home own route value ≡ true → token_of value ≡ Some token → IsTrue good ↔ IsGoodToken secret id second token
+      → IsTrue good ↔ IsOwnWithToken secret own route second id value
   with_token id value token good home is_token k = (
     λ t. record { leads_home = home; token = token; has_token = is_token; good = k.0 t },
     λ is.
@@ -39,18 +38,18 @@ module _ (secret : List ℕ) (own : Own) (second : ℕ) where
         k.1 (subst (λ (t : List ℕ). IsGoodToken secret id second t) same is.good),
   )
 
-  pub no_tag : (m : MessageText) → is_some (tag_in (value_of To m.headers)) ≡ false → IsTrue false ↔ IsOfDialog secret own second m
+  pub no_tag : (m : MessageText) → is_some (tag_in (value_of To m.headers)) ≡ false → IsTrue false ↔ IsOfDialog secret own route second m
   no_tag m h = (λ t. absurd (false_true t), λ is. absurd (differ (is_some (tag_in (value_of To m.headers))) h is.tag))
 
-  pub no_route : (m : MessageText) → first_route m ≡ None → IsTrue false ↔ IsOfDialog secret own second m
-  no_route m h = (λ t. absurd (false_true t), λ is. absurd (none_some (first_route m) is.route h is.first))
+  pub no_route : (m : MessageText) → first_route m ≡ None → IsTrue false ↔ IsOfDialog secret own route second m
+  no_route m h = (λ t. absurd (false_true t), λ is. absurd (none_some (first_route m) is.value h is.first))
 
   pub by_route : (m : MessageText) (id value : List ℕ) (known : Bool) → is_some (tag_in (value_of To m.headers)) ≡ true → first_route m ≡ Some value → id ≡ call_id m
-      → IsTrue known ↔ IsOwnWithToken secret own second id value → IsTrue known ↔ IsOfDialog secret own second m
+      → IsTrue known ↔ IsOwnWithToken secret own route second id value → IsTrue known ↔ IsOfDialog secret own route second m
   by_route m id value known tag first is_id k = (
-    λ t. record { tag = tag; route = value; first = first; known = subst (λ (i : List ℕ). IsOwnWithToken secret own second i value) is_id (k.0 t) },
+    λ t. record { tag = tag; value = value; first = first; known = subst (λ (i : List ℕ). IsOwnWithToken secret own route second i value) is_id (k.0 t) },
     λ is.
-        let same : is.route ≡ value = same_some (first_route m) is.route value is.first first in
-        let here = subst (λ (v : List ℕ). IsOwnWithToken secret own second (call_id m) v) same is.known in
-        k.1 (subst (λ (i : List ℕ). IsOwnWithToken secret own second i value) (sym is_id) here),
+        let same : is.value ≡ value = same_some (first_route m) is.value value is.first first in
+        let here = subst (λ (v : List ℕ). IsOwnWithToken secret own route second (call_id m) v) same is.known in
+        k.1 (subst (λ (i : List ℕ). IsOwnWithToken secret own route second i value) (sym is_id) here),
   )

@@ -92,8 +92,8 @@ IsOfSender false admission arrival m decision = decision ≡ other admission arr
 
 abbrev pub IsOfUntrusted : Admission → Arrival → MessageText → Decision → Type 0
 IsOfUntrusted admission arrival m decision =
-    (IsOfDialog admission.secret admission.domain.own arrival.second m × (decision ≡ Opens rules.InDialog))
-    ⊎ ((IsOfDialog admission.secret admission.domain.own arrival.second m → ⊥)
+    (IsOfDialog admission.secret admission.domain.own admission.domain.route arrival.second m × (decision ≡ Opens rules.InDialog))
+    ⊎ ((IsOfDialog admission.secret admission.domain.own admission.domain.route arrival.second m → ⊥)
     × IsOfSender (claims_domain admission.domain (uri_in (codes "from") m)) admission arrival m decision)
 
 abbrev pub IsOfSource : (trusted : Bool) → Admission → Arrival → MessageText → Decision → Type 0
@@ -116,7 +116,7 @@ IsDecision admission arrival m decision = IsOfRequest (is_for_registrar admissio
 
 abbrev pub MayOpen : Admission → Arrival → MessageText → Rule → Type 0
 MayOpen admission arrival m rules.Trusted = arrival.trusted ≡ true
-MayOpen admission arrival m rules.InDialog = IsOfDialog admission.secret admission.domain.own arrival.second m
+MayOpen admission arrival m rules.InDialog = IsOfDialog admission.secret admission.domain.own admission.domain.route arrival.second m
 MayOpen admission arrival m rules.Password =
     (name : List ℕ)
     × Stands true Proxy admission.realm m (arrival_of m (address_text arrival.source.addr) arrival.second) (Right name)

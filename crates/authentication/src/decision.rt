@@ -278,6 +278,7 @@ fn of_untrusted<M: Allocator, A: Allocator + Clone, U: Allocator + Clone>(
     if is_of_dialog(
         admission.secret,
         admission.domain.own,
+        admission.domain.route,
         arrival.second,
         message,
     ) {

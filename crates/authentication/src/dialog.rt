@@ -4,7 +4,7 @@ ghost use Rattle.std.specs.Option.{option_copied};
 ghost use Rattle.sip_uri.specs.Reading.{uri_of};
 ghost use Rattle.sip_uri.specs.Uri.{is_named};
 ghost use Rattle.sip_route.specs.Routes.{bracketed};
-ghost use Rattle.authentication.specs.Dialog.{IsOfDialog, IsOwnWithToken, first_route, token_at, token_of};
+ghost use Rattle.authentication.specs.Dialog.{IsOfDialog, IsOwnWithToken, first_route, names_home, token_at, token_of};
 
 use crate::tail::{UriParams, is_uri_param};
 use sip_digest::is_good_dialog_token;
@@ -65,11 +65,25 @@ fn token_of(value: &[u8]) -> Option<&[u8]>
     }
 }
 
-/// Whether a value names the proxy, with a token that is good for this Call-ID.
-fn is_own_with_token(secret: &[u8; 32], own: Own, second: u32, call_id: &[u8], value: &[u8]) -> bool
-    ensures { IsTrue result ↔ IsOwnWithToken secret.now own second call_id.now value.now }
+/// Whether a value names the proxy, by the address that it receives at, or by the one that its Record-Route line names.
+fn names_home(own: Own, route: Own, value: &[u8]) -> bool
+    ensures { result ≡ names_home own route value.now }
 {
-    if !leads_to_proxy(own, value) {
+    leads_to_proxy(own, value) || leads_to_proxy(route, value)
+}
+
+/// Whether a value names the proxy, with a token that is good for this Call-ID.
+fn is_own_with_token(
+    secret: &[u8; 32],
+    own: Own,
+    route: Own,
+    second: u32,
+    call_id: &[u8],
+    value: &[u8],
+) -> bool
+    ensures { IsTrue result ↔ IsOwnWithToken secret.now own route second call_id.now value.now }
+{
+    if !names_home(own, route, value) {
         return false;
     }
     match token_of(value) {
@@ -78,21 +92,23 @@ fn is_own_with_token(secret: &[u8; 32], own: Own, second: u32, call_id: &[u8], v
     }
 }
 
-/// Whether a request belongs to a dialog that went by the proxy: its To has a tag, and its first Route value is the proxy's own with a
-/// parameter `d` whose value is a token that is good for its Call-ID at that second since 1970.
+/// Whether a request belongs to a dialog that went by the proxy: its To has a tag, and its first Route value is the proxy's own, by the
+/// address that it receives at or by `route`, which its Record-Route line names, with a parameter `d` whose value is a token that is good for
+/// its Call-ID at that second since 1970.
 pub fn is_of_dialog<M: Allocator>(
     secret: &[u8; 32],
     own: Own,
+    route: Own,
     second: u32,
     message: &Message<M>,
 ) -> bool
-    ensures { IsTrue result ↔ IsOfDialog secret.now own second message.now }
+    ensures { IsTrue result ↔ IsOfDialog secret.now own route second message.now }
 {
     if message.to_tag().is_none() {
         return false;
     }
     match first_route(message) {
         None => false,
-        Some(value) => is_own_with_token(secret, own, second, message.call_id(), value),
+        Some(value) => is_own_with_token(secret, own, route, second, message.call_id(), value),
     }
 }

@@ -13,6 +13,8 @@ pub struct Domain<'a> {
     pub name: &'a [u8],
     /// The address and port that the proxy receives at.
     pub own: Own,
+    /// The address and port that its Record-Route line names.
+    pub route: Own,
     /// Whether a URI with the own address is of the domain only where it leads to the own port.
     pub by_port: bool,
     /// Whether the proxy has streams.

@@ -1,9 +1,9 @@
 //! What a text sets a proxy up with, and which of its lines is malformed.
 use crate::holds::holds;
 use fork_rank::Rules;
-use proxy_config::{Location, Setup, SetupFault, locations_are_targets};
+use proxy_config::{Location, Setup, SetupFault, locations_are_targets, read_address};
 use sip_lex::append_decimal;
-use sip_uri::Hop;
+use sip_uri::{Hop, Transport};
 use sip_via::Own;
 use std::alloc::Global;
 use std::process::Abort;
@@ -625,5 +625,42 @@ fn a_setup_does_more_where_that_is_said(rt: HostRuntime) {
             holds(&rt, switches(&setup) == four, "streams");
         }
         None => holds(&rt, false, "four lines are a setup"),
+    }
+}
+
+/// Where a front stands, or what several proxies share.
+const FRONT: Own = Own {
+    addr: [192, 0, 2, 1],
+    port: 5070,
+    transport: Transport::Udp,
+};
+
+#[test]
+fn a_record_route_line_names_the_own_address_or_another(rt: HostRuntime) {
+    match setup_of_lines(rt.alloc()) {
+        Some(setup) => {
+            holds(&rt, setup.route() == setup.own(), "the own one");
+            let setup = setup.recording_as(FRONT);
+            holds(&rt, setup.route() == FRONT, "another one");
+            holds(&rt, !setup.records(), "no line is added by that");
+        }
+        None => holds(&rt, false, "four lines are a setup"),
+    }
+}
+
+#[test]
+fn an_address_is_read_with_its_port(rt: HostRuntime) {
+    let read = read_address(b"192.0.2.1:5070", b':');
+    holds(&rt, read == Some(FRONT), "behind a colon");
+    for text in [
+        "192.0.2.1 5070",
+        "0.0.0.0:5070",
+        "192.0.2.1:0",
+        "192.0.2.1:65536",
+        "192.0.2.01:5070",
+        "192.0.2.1:",
+    ] {
+        let read = read_address(text.as_bytes(), b':');
+        holds(&rt, read.is_none(), text);
     }
 }

@@ -125,6 +125,7 @@ fn a_call_is_written_down(rt: HostRuntime) {
 fn a_configuration_is_checked(rt: HostRuntime) {
     let options = Options {
         config: FILE,
+        own: None,
         users: None,
         control: "forkproxyd_test_unused",
         journal: None,
@@ -133,8 +134,11 @@ fn a_configuration_is_checked(rt: HostRuntime) {
         most_bindings: 1_000,
         workers: 1,
         records: false,
+        route: None,
+        secret: None,
         own_port: false,
         most_per_source: None,
+        unlimited: &[],
         metrics: None,
         connections: None,
     };
@@ -144,7 +148,7 @@ fn a_configuration_is_checked(rt: HostRuntime) {
         served == Err(DaemonFault::Line(2)),
         "a malformed configuration is not served",
     );
-    let missing = check_config(&rt, rt.alloc(), FILE, None);
+    let missing = check_config(&rt, rt.alloc(), FILE, None, None);
     holds(
         &rt,
         missing == Err(DaemonFault::Unreadable),
@@ -152,7 +156,7 @@ fn a_configuration_is_checked(rt: HostRuntime) {
     );
     let written = fs::write(&rt, FILE, CONFIGURATION).is_ok();
     holds(&rt, written, "the configuration is written");
-    let checked = check_config(&rt, rt.alloc(), FILE, None);
+    let checked = check_config(&rt, rt.alloc(), FILE, None, None);
     holds(&rt, checked.is_ok(), "the configuration is well-formed");
     let _ = fs::remove_file(&rt, FILE);
 }

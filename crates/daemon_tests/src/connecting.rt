@@ -28,6 +28,7 @@ const MOST_OF_SOURCE: u32 = 4;
 
 const OPTIONS: Options<'static> = Options {
     config: "forkproxyd_test_unused",
+    own: None,
     users: None,
     control: CONTROL,
     journal: None,
@@ -36,8 +37,11 @@ const OPTIONS: Options<'static> = Options {
     most_bindings: 100,
     workers: 2,
     records: false,
+    route: None,
+    secret: None,
     own_port: true,
     most_per_source: None,
+    unlimited: &[],
     metrics: None,
     connections: Some(ConnectionOptions {
         most: 100,

@@ -35,6 +35,7 @@ const CONFIGURATION: &[u8] =
 
 const OPTIONS: Options<'static> = Options {
     config: CONFIG,
+    own: None,
     users: Some(USERS),
     control: CONTROL,
     journal: None,
@@ -43,8 +44,11 @@ const OPTIONS: Options<'static> = Options {
     most_bindings: 1_000,
     workers: 2,
     records: false,
+    route: None,
+    secret: None,
     own_port: true,
     most_per_source: None,
+    unlimited: &[],
     metrics: None,
     connections: None,
 };

@@ -6,6 +6,8 @@ use metrics::{Counts, Gauges};
 use service_admission::{SourceLimits, admits};
 use service_files::{DaemonFault, Options};
 use service_threads::serve;
+use sip_uri::Transport;
+use sip_via::Own;
 use std::alloc::Global;
 use std::fs;
 use std::net::Net;
@@ -91,6 +93,7 @@ const CONFIGURATION: &[u8] = b"own 127.0.0.1 47460\ndomain example.com\n";
 /// Each address may send five datagrams at once, and five more each second.
 const OPTIONS: Options<'static> = Options {
     config: CONFIG,
+    own: None,
     users: None,
     control: CONTROL,
     journal: None,
@@ -99,8 +102,11 @@ const OPTIONS: Options<'static> = Options {
     most_bindings: 1_000,
     workers: 2,
     records: false,
+    route: None,
+    secret: None,
     own_port: false,
     most_per_source: Some(5),
+    unlimited: &[],
     metrics: None,
     connections: None,
 };
@@ -189,5 +195,86 @@ fn a_proxy_limits_each_source(rt: HostRuntime) -> Result<(), Fail> {
     holds(&rt, missed == "nothing", missed);
     holds(&rt, ended.is_ok(), "the proxy ends in good order");
     let _ = fs::remove_file(&rt, CONFIG);
+    Ok(())
+}
+
+// ---- of whom one is excepted
+
+/// Where that proxy listens.
+const PROXY_EXCEPTING: u16 = 47_463;
+
+const CONFIG_EXCEPTING: &str = "forkproxyd_test_excepting_config";
+
+const CONTROL_EXCEPTING: &str = "forkproxyd_test_excepting_control";
+
+/// A configuration without an address.
+const WITHOUT_OWN: &[u8] = b"domain example.com\n";
+
+/// This machine.
+const HERE: &[service_config::Net] = &[service_config::Net {
+    addr: [127, 0, 0, 0],
+    bits: 8,
+}];
+
+/// The same limit, but not for this machine; the address that the proxy receives at is said here.
+const EXCEPTING: Options<'static> = Options {
+    config: CONFIG_EXCEPTING,
+    own: Some(Own {
+        addr: [127, 0, 0, 1],
+        port: PROXY_EXCEPTING,
+        transport: Transport::Udp,
+    }),
+    control: CONTROL_EXCEPTING,
+    unlimited: HERE,
+    ..OPTIONS
+};
+
+/// Whether as many datagrams come as are sent, and each is answered.
+fn comes_unlimited<R: Net + Clock>(rt: &R, alloc: Global, agents: &Agents) -> bool {
+    for _ in 0..BURST {
+        agents.sends_for_caller(ASKED);
+    }
+    let answered = "\nforkproxy_answered_total{status=\"200\"} 50\n";
+    counts(rt, alloc, CONTROL_EXCEPTING, answered)
+        && counts(
+            rt,
+            alloc,
+            CONTROL_EXCEPTING,
+            "\nforkproxy_limited_total 0\n",
+        )
+}
+
+/// Plays that, and says what did not hold; then the proxy is told to end at once.
+fn plays_unlimited<R: Net + Clock>(rt: &R, alloc: Global) -> &'static str {
+    let missed = match Agents::new(rt, alloc, PROXY_EXCEPTING) {
+        Some(agents) => {
+            if !counts(rt, alloc, CONTROL_EXCEPTING, "forkproxy_calls 0\n") {
+                "the proxy answers at its control socket"
+            } else if !comes_unlimited(rt, alloc, &agents) {
+                "a source in a net that is excepted is not limited"
+            } else {
+                "nothing"
+            }
+        }
+        None => "there are two agents",
+    };
+    let _ = told(rt, alloc, CONTROL_EXCEPTING, "stop 0");
+    missed
+}
+
+#[test]
+fn a_proxy_does_not_limit_whom_it_excepts(rt: HostRuntime) -> Result<(), Fail> {
+    let alloc = rt.alloc();
+    let written = fs::write(&rt, CONFIG_EXCEPTING, WITHOUT_OWN).is_ok();
+    holds(&rt, written, "the configuration is written");
+    let (served, missed) = join(
+        &rt,
+        || serve(&rt, alloc, EXCEPTING),
+        || plays_unlimited(&rt, alloc),
+    );
+    let ended: Result<(), DaemonFault> = served;
+    holds(&rt, missed == "nothing", missed);
+    holds(&rt, ended.is_ok(), "the proxy ends in good order");
+    let _ = fs::remove_file(&rt, CONFIG_EXCEPTING);
     Ok(())
 }

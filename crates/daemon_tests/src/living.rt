@@ -39,6 +39,7 @@ const OTHER: &[u8] =
 /// It is full with two calls.
 const OPTIONS: Options<'static> = Options {
     config: CONFIG,
+    own: None,
     users: None,
     control: CONTROL,
     journal: Some(JOURNAL),
@@ -47,8 +48,11 @@ const OPTIONS: Options<'static> = Options {
     most_bindings: 1_000,
     workers: 2,
     records: true,
+    route: None,
+    secret: None,
     own_port: true,
     most_per_source: Some(1_000),
+    unlimited: &[],
     metrics: Some(METRICS),
     connections: None,
 };

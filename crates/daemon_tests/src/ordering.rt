@@ -23,6 +23,7 @@ const CONFIGURATION: &[u8] =
 
 const OPTIONS: Options<'static> = Options {
     config: "forkproxyd_test_unused",
+    own: None,
     users: None,
     control: CONTROL,
     journal: None,
@@ -31,8 +32,11 @@ const OPTIONS: Options<'static> = Options {
     most_bindings: 1_000,
     workers: 4,
     records: false,
+    route: None,
+    secret: None,
     own_port: true,
     most_per_source: None,
+    unlimited: &[],
     metrics: None,
     connections: None,
 };

@@ -108,6 +108,7 @@ pub fn service_over<A: Allocator + Copy>(
         identity: Identity::of(configuration.settings.setup()),
         number: NUMBER,
         records: served.records,
+        route: None,
         own_port: served.own_port,
         streams: false,
         most_calls: served.most_calls,

@@ -38,6 +38,7 @@ pub const LIST: &[u8] = b"bob 2664cba6663a734ef3a6fefc0c0d0821 -\n";
 
 const OPTIONS: Options<'static> = Options {
     config: CONFIG,
+    own: None,
     users: Some(USERS),
     control: CONTROL,
     journal: None,
@@ -46,8 +47,11 @@ const OPTIONS: Options<'static> = Options {
     most_bindings: 1_000,
     workers: 2,
     records: false,
+    route: None,
+    secret: None,
     own_port: true,
     most_per_source: None,
+    unlimited: &[],
     metrics: None,
     connections: None,
 };

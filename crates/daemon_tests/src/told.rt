@@ -28,6 +28,7 @@ const CONFIGURATION: &[u8] =
 
 const OPTIONS: Options<'static> = Options {
     config: CONFIG,
+    own: None,
     users: None,
     control: CONTROL,
     journal: Some(JOURNAL),
@@ -36,8 +37,11 @@ const OPTIONS: Options<'static> = Options {
     most_bindings: 1_000,
     workers: 2,
     records: false,
+    route: None,
+    secret: None,
     own_port: true,
     most_per_source: None,
+    unlimited: &[],
     metrics: None,
     connections: None,
 };

@@ -31,6 +31,7 @@ const CONFIGURATION: &[u8] =
 /// It is full with the calls that the test opens.
 const OPTIONS: Options<'static> = Options {
     config: CONFIG,
+    own: None,
     users: None,
     control: CONTROL,
     journal: Some(JOURNAL),
@@ -39,8 +40,11 @@ const OPTIONS: Options<'static> = Options {
     most_bindings: 1_000,
     workers: 2,
     records: true,
+    route: None,
+    secret: None,
     own_port: true,
     most_per_source: None,
+    unlimited: &[],
     metrics: None,
     connections: None,
 };

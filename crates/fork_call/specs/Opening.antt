@@ -23,7 +23,7 @@ use Rattle.sip_build.specs.Dialogs.{opens_dialog}
 use Rattle.sip_build.specs.Forwarding.{forwarded}
 use Rattle.sip_digest.specs.Stamp.{token_text}
 use Rattle.proxy_config.specs.declared.dialog_token.DialogToken.{DialogToken}
-use Rattle.proxy_config.specs.Setup.{Setup}
+use Rattle.proxy_config.specs.Setup.{Setup, route_of}
 use Rattle.call_model.specs.declared.tried_contacts.TriedContacts.{TriedContacts}
 use Rattle.call_model.specs.declared.tried_contacts.TriedContacts.TheVariants.{Every, NoContacts, OverUdp}
 use Rattle.call_model.specs.Begun.{begun}
@@ -85,7 +85,7 @@ with_token (Some token) setup = record setup { token = Some token }
 -- and goes on over another, where it is to (section 16.6 step 4)
 abbrev pub record_route_of : Setup → MessageText → (from to : Bool) → Option (List ℕ)
 record_route_of setup request from to =
-    if setup.records && opens_dialog request then Some (dialog_routes setup.own from to (option_map (text_of_token (call_id request)) setup.token)) else None
+    if setup.records && opens_dialog request then Some (dialog_routes (route_of setup) from to (option_map (text_of_token (call_id request)) setup.token)) else None
 
 -- that of a request that goes on over a connection, where there are any
 abbrev pub stream_record_route_of : (streams : Bool) → Setup → MessageText → (from : Bool) → Option (List ℕ)

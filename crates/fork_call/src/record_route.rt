@@ -189,13 +189,13 @@ fn stream_route<A: Allocator>(
     token: Option<&[u8]>,
 ) -> Result<Option<Vec<u8, A>>, AllocError>
     requires { IfSome (option_copied token) (λ text. is_line text ≡ true) }
-    ensures value { IfOk result (λ made. option_map (λ v. v.items) made ≡ (if setup.now.streams then Some (dialog_routes setup.now.own from true (option_copied token.entry)) else None)) }
+    ensures value { IfOk result (λ made. option_map (λ v. v.items) made ≡ (if setup.now.streams then Some (dialog_routes (route_of setup.now) from true (option_copied token.entry)) else None)) }
     ensures good { IfOk result (λ made. IfSome (option_map (λ v. v.items) made) (λ value. IsTrue (is_value value))) }
 {
     if !setup.has_streams() {
         return Ok(None);
     }
-    let route = dialog_routes(alloc, setup.own(), from, true, token)?;
+    let route = dialog_routes(alloc, setup.route(), from, true, token)?;
     Ok(Some(route))
 }
 
@@ -222,7 +222,7 @@ pub(crate) fn record_routes_of<A: Allocator + Clone>(
     let token = token_or_own(setup, token);
     let text = token_text(alloc.clone()?, token, request.call_id())?;
     let text = text.as_deref();
-    let datagram = dialog_routes(alloc.clone()?, setup.own(), from, false, text)?;
+    let datagram = dialog_routes(alloc.clone()?, setup.route(), from, false, text)?;
     let stream = stream_route(alloc, setup, from, text)?;
     Ok(RecordRoutes {
         datagram: Some(datagram),

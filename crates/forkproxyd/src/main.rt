@@ -1,6 +1,9 @@
 //! `forkproxyd`: a proxy that serves until it is told to stop, and the words that tell it to.
 #![tactic(auto)]
 
+mod addresses;
+
+use addresses::{AddressFault, Addresses, OWN_ADDRESS, addresses_of};
 use clap::{Arg, ArgAction, ArgMatches, Command, value_parser};
 use control_socket::tell;
 use metrics::PageSockets;
@@ -129,6 +132,12 @@ fn with_files<'a>(alloc: Global, command: Command<'a>) -> Result<Command<'a>, Al
         ))?
         .arg(file_arg(
             alloc,
+            "secret",
+            "FILE",
+            "64 hexadecimal digits, which nonces and the tokens of dialogs are made with: one for all proxies that take one another's dialogs over",
+        ))?
+        .arg(file_arg(
+            alloc,
             "store",
             "FILE",
             "the file in which what telephones register is kept, an SQLite database; it is kept in memory alone if left out",
@@ -141,7 +150,7 @@ fn with_files<'a>(alloc: Global, command: Command<'a>) -> Result<Command<'a>, Al
         ))
 }
 
-/// The arguments that say how a proxy serves.
+/// The arguments that say how many of what a proxy takes.
 fn with_limits<'a>(alloc: Global, command: Command<'a>) -> Result<Command<'a>, AllocError> {
     let most_calls = Arg::new(alloc, "most-calls")
         .long("most-calls")
@@ -162,32 +171,46 @@ fn with_limits<'a>(alloc: Global, command: Command<'a>) -> Result<Command<'a>, A
         .help(
             "how many threads receive and handle datagrams: as many as there are processors, and 2 at least, if left out",
         );
+    let most_per_source = Arg::new(alloc, "most-per-source")
+        .long("most-per-source")
+        .value_name("N [except A.B.C.D/N ..]")
+        .num_args(1..)
+        .help(
+            "how many datagrams one source address may send at once, and as many more each second, but for the addresses of these nets: no limit if left out",
+        );
+    command
+        .arg(most_calls)?
+        .arg(most_bindings)?
+        .arg(workers)?
+        .arg(most_per_source)
+}
+
+/// The arguments that say at which addresses a proxy serves, and by which it is reached.
+fn with_addresses<'a>(alloc: Global, command: Command<'a>) -> Result<Command<'a>, AllocError> {
+    let own = Arg::new(alloc, "own")
+        .long("own")
+        .value_name("ADDRESS:PORT")
+        .help("where it receives, in place of the line own of the configuration");
     let record_route = Arg::new(alloc, "record-route")
         .long("record-route")
-        .action(ArgAction::SetTrue)
-        .help("stays on the path of dialogs, by a Record-Route line in each INVITE that opens one");
+        .value_name("ADDRESS:PORT")
+        .num_args(0..=1)
+        .default_missing_value(OWN_ADDRESS)
+        .help(
+            "stays on the path of dialogs, by a Record-Route line in each INVITE that opens one, which names this address: the own one if left out",
+        );
     let own_port = Arg::new(alloc, "own-port")
         .long("own-port")
         .action(ArgAction::SetTrue)
         .help("counts the own address as the domain with the own port alone");
-    let most_per_source = Arg::new(alloc, "most-per-source")
-        .long("most-per-source")
-        .value_name("N")
-        .value_parser(value_parser!(u32).range(1..))
-        .help(
-            "how many datagrams one source address may send at once, and as many more each second: no limit if left out",
-        );
     let metrics = Arg::new(alloc, "metrics")
         .long("metrics")
         .value_name("ADDRESS:PORT")
         .help("where the counters are scraped, by a GET of /metrics");
     command
-        .arg(most_calls)?
-        .arg(most_bindings)?
-        .arg(workers)?
+        .arg(own)?
         .arg(record_route)?
         .arg(own_port)?
-        .arg(most_per_source)?
         .arg(metrics)
 }
 
@@ -229,6 +252,7 @@ fn command_line<'a>(alloc: Global) -> Result<Command<'a>, AllocError> {
     let command = with_files(alloc, command)?;
     let command = with_limits(alloc, command)?;
     let command = with_connections(alloc, command)?;
+    let command = with_addresses(alloc, command)?;
     command
         .subcommand(tell_command(alloc)?)?
         .subcommand(user_command(alloc)?)
@@ -386,6 +410,58 @@ fn connections_of(matches: &ArgMatches<'_>) -> Option<ConnectionOptions> {
     })
 }
 
+/// Serves as the words say, with these addresses.
+fn served_at<
+    R: Threads
+        + Wait
+        + Net
+        + ProxyFiles
+        + PageSockets
+        + ProxyStores
+        + Clock
+        + Print
+        + Eprint
+        + RandomSource
+        + Sync,
+>(handle: &R, rt: &HostRuntime, matches: &ArgMatches<'_>, addresses: &Addresses) -> u8 {
+    if let Some(config) = matches.get_str("check-config") {
+        let users = matches.get_str("users");
+        let checked = check_config(rt, rt.alloc(), config, users, addresses.own);
+        return ended(rt, checked);
+    }
+    let (Some(config), Some(control)) = (matches.get_str("config"), matches.get_str("control"))
+    else {
+        let _ = rt.eprintln("--config FILE and --control PATH are needed; --help tells more");
+        return USAGE;
+    };
+    let workers = match matches.get_one::<u16>("workers") {
+        Some(workers) => usize::from(workers),
+        None => workers_here(handle),
+    };
+    let options = Options {
+        config,
+        own: addresses.own,
+        users: matches.get_str("users"),
+        control,
+        journal: matches.get_str("journal"),
+        store: matches.get_str("store"),
+        most_calls: matches.get_one::<u64>("most-calls"),
+        most_bindings: matches
+            .get_one::<u32>("most-bindings")
+            .unwrap_or(MOST_BINDINGS),
+        workers,
+        records: addresses.records,
+        route: addresses.route,
+        secret: matches.get_str("secret"),
+        own_port: matches.get_flag("own-port"),
+        most_per_source: addresses.most_per_source,
+        unlimited: &addresses.unlimited,
+        metrics: matches.get_str("metrics"),
+        connections: connections_of(matches),
+    };
+    ended(rt, serve(handle, rt.alloc(), options))
+}
+
 /// Serves as the words say.
 fn served<
     R: Threads
@@ -401,37 +477,14 @@ fn served<
         + RandomSource
         + Sync,
 >(handle: &R, rt: &HostRuntime, matches: &ArgMatches<'_>) -> u8 {
-    if let Some(config) = matches.get_str("check-config") {
-        let users = matches.get_str("users");
-        return ended(rt, check_config(rt, rt.alloc(), config, users));
+    match addresses_of(rt.alloc(), matches) {
+        Ok(addresses) => served_at(handle, rt, matches, &addresses),
+        Err(AddressFault::NoMemory) => DaemonFault::NoMemory.status(),
+        Err(fault) => {
+            let _ = rt.eprintln(fault);
+            USAGE
+        }
     }
-    let (Some(config), Some(control)) = (matches.get_str("config"), matches.get_str("control"))
-    else {
-        let _ = rt.eprintln("--config FILE and --control PATH are needed; --help tells more");
-        return USAGE;
-    };
-    let workers = match matches.get_one::<u16>("workers") {
-        Some(workers) => usize::from(workers),
-        None => workers_here(handle),
-    };
-    let options = Options {
-        config,
-        users: matches.get_str("users"),
-        control,
-        journal: matches.get_str("journal"),
-        store: matches.get_str("store"),
-        most_calls: matches.get_one::<u64>("most-calls"),
-        most_bindings: matches
-            .get_one::<u32>("most-bindings")
-            .unwrap_or(MOST_BINDINGS),
-        workers,
-        records: matches.get_flag("record-route"),
-        own_port: matches.get_flag("own-port"),
-        most_per_source: matches.get_one::<u32>("most-per-source"),
-        metrics: matches.get_str("metrics"),
-        connections: connections_of(matches),
-    };
-    ended(rt, serve(handle, rt.alloc(), options))
 }
 
 /// Does what the words ask for; `handle` has the threads and the sockets.

@@ -82,25 +82,26 @@ locations_drafted phase setup (location ∷ locations) takes whole kept all =
 
 -- before its first location
 abbrev head : Own → ℕ → List ℕ → Rules → Setup
-head own instance domain rules = record { own = own; instance = instance; domain = domain; rules = rules; locations = []; by_port = false; for_service = false; ring = usual_longest; records = false; stamps = false; reasons = false; streams = false; large = false; ways = []; realm = None; token = None }
+head own instance domain rules = record { own = own; instance = instance; domain = domain; rules = rules; locations = []; by_port = false; for_service = false; ring = usual_longest; records = false; stamps = false; reasons = false; streams = false; large = false; ways = []; realm = None; token = None; route = None }
 
 -- as lines spell it: none says the others
 abbrev spelled_as : Setup → Setup
-spelled_as s = record s { by_port = false; for_service = false; ring = usual_longest; records = false; stamps = false; reasons = false; streams = false; large = false; ways = []; realm = None; token = None }
+spelled_as s = record s { by_port = false; for_service = false; ring = usual_longest; records = false; stamps = false; reasons = false; streams = false; large = false; ways = []; realm = None; token = None; route = None }
 
 spelled_same : (shown : Shown) (s : Setup) → IsSetup shown s → spelled_as s ≡ s
 spelled_same shown s h =
-    ap (λ (b : Bool). record s { by_port = b; for_service = false; ring = usual_longest; records = false; stamps = false; reasons = false; streams = false; large = false; ways = []; realm = None; token = None }) (sym h.by_port)
-    ∙ ap (λ (b : Bool). record s { for_service = b; ring = usual_longest; records = false; stamps = false; reasons = false; streams = false; large = false; ways = []; realm = None; token = None }) (sym h.for_service)
-    ∙ ap (λ (n : ℕ). record s { ring = n; records = false; stamps = false; reasons = false; streams = false; large = false; ways = []; realm = None; token = None }) (sym h.ring)
-    ∙ ap (λ (b : Bool). record s { records = b; stamps = false; reasons = false; streams = false; large = false; ways = []; realm = None; token = None }) (sym h.records)
-    ∙ ap (λ (b : Bool). record s { stamps = b; reasons = false; streams = false; large = false; ways = []; realm = None; token = None }) (sym h.stamps)
-    ∙ ap (λ (b : Bool). record s { reasons = b; streams = false; large = false; ways = []; realm = None; token = None }) (sym h.reasons)
-    ∙ ap (λ (b : Bool). record s { streams = b; large = false; ways = []; realm = None; token = None }) (sym h.streams)
-    ∙ ap (λ (b : Bool). record s { large = b; ways = []; realm = None; token = None }) (sym h.large)
-    ∙ ap (λ (ws : List Way). record s { ways = ws; realm = None; token = None }) (sym h.ways)
-    ∙ ap (λ (r : Option (List ℕ)). record s { realm = r; token = None }) (sym h.realm)
-    ∙ ap (λ (t : Option DialogToken). record s { token = t }) (sym h.token)
+    ap (λ (b : Bool). record s { by_port = b; for_service = false; ring = usual_longest; records = false; stamps = false; reasons = false; streams = false; large = false; ways = []; realm = None; token = None; route = None }) (sym h.by_port)
+    ∙ ap (λ (b : Bool). record s { for_service = b; ring = usual_longest; records = false; stamps = false; reasons = false; streams = false; large = false; ways = []; realm = None; token = None; route = None }) (sym h.for_service)
+    ∙ ap (λ (n : ℕ). record s { ring = n; records = false; stamps = false; reasons = false; streams = false; large = false; ways = []; realm = None; token = None; route = None }) (sym h.ring)
+    ∙ ap (λ (b : Bool). record s { records = b; stamps = false; reasons = false; streams = false; large = false; ways = []; realm = None; token = None; route = None }) (sym h.records)
+    ∙ ap (λ (b : Bool). record s { stamps = b; reasons = false; streams = false; large = false; ways = []; realm = None; token = None; route = None }) (sym h.stamps)
+    ∙ ap (λ (b : Bool). record s { reasons = b; streams = false; large = false; ways = []; realm = None; token = None; route = None }) (sym h.reasons)
+    ∙ ap (λ (b : Bool). record s { streams = b; large = false; ways = []; realm = None; token = None; route = None }) (sym h.streams)
+    ∙ ap (λ (b : Bool). record s { large = b; ways = []; realm = None; token = None; route = None }) (sym h.large)
+    ∙ ap (λ (ws : List Way). record s { ways = ws; realm = None; token = None; route = None }) (sym h.ways)
+    ∙ ap (λ (r : Option (List ℕ)). record s { realm = r; token = None; route = None }) (sym h.realm)
+    ∙ ap (λ (t : Option DialogToken). record s { token = t; route = None }) (sym h.token)
+    ∙ ap (λ (r : Option Own). record s { route = r }) (sym h.route)
 
 setup_drafted_as : (prefer depth : Bool) (s : Setup) → IsSetup (record { prefer = prefer; depth = depth }) s → Reached no_draft (lines_of (record { prefer = prefer; depth = depth }) s) (spelled_as s)
 setup_drafted_as true true s h =
@@ -280,7 +281,7 @@ close shown own instance domain rules lines next h are b =
     let P : Setup → Type 0 = LinesFound (head_lines own instance domain (line_if shown.prefer (PreferLine rules.preferred) ++ (line_if shown.depth (DepthLine rules.depth) ++ lines))) in
     subst P b.same (record {
       shown = shown;
-      is = record { own = h.own_is; instance = h.within; domain = h.host; rules = are; locations = b.right; kept = b.kept; by_port = refl; for_service = refl; ring = refl; records = refl; stamps = refl; reasons = refl; streams = refl; large = refl; ways = refl; realm = refl; token = refl };
+      is = record { own = h.own_is; instance = h.within; domain = h.host; rules = are; locations = b.right; kept = b.kept; by_port = refl; for_service = refl; ring = refl; records = refl; stamps = refl; reasons = refl; streams = refl; large = refl; ways = refl; realm = refl; token = refl; route = refl };
       spelled = ap (λ (ls : List Line). head_lines own instance domain (line_if shown.prefer (PreferLine rules.preferred) ++ (line_if shown.depth (DepthLine rules.depth) ++ ls))) b.spelled;
     })
 

@@ -80,6 +80,7 @@ pub record IsSetup (shown : Shown) (setup : Setup) : Type 0 where
   pub ways : setup.ways ≡ []
   pub realm : setup.realm ≡ None
   pub token : setup.token ≡ None
+  pub route : setup.route ≡ None
 
 -- ---- the text
 

@@ -64,4 +64,5 @@ no_setup = record {
   ways = [];
   realm = None;
   token = None;
+  route = None;
 }

@@ -1,6 +1,6 @@
 -- What a proxy is set up with: the address it receives at, the number of this run, the domain it answers for, the rules
 -- of its forks, and where the users of the domain may be reached (RFC 3261 sections 16.5 and 16.6).
-use Rattle.std.specs.Prelude.{◌≡◌, ◌<◌, ◌≤◌, ℕ, ◌&&◌, ◌==◌, Bool, true, false, bytes_eq, List, [], ◌∷◌, ◌++◌, map, filter, length, Option, None, Some, slice_get, if◌then◌else◌}
+use Rattle.std.specs.Prelude.{◌≡◌, ◌<◌, ◌≤◌, ℕ, ◌&&◌, ◌==◌, Bool, true, false, bytes_eq, List, [], ◌∷◌, ◌++◌, map, filter, length, Option, None, Some, slice_get, unwrap_or, if◌then◌else◌}
 use Rattle.std.specs.Fmt.{decimal}
 use Rattle.std.specs.List.{list_any, AllByRecursion}
 use Rattle.fork_model.specs.Table.{Rules, most_targets}
@@ -61,6 +61,13 @@ pub record Setup : Type 0 where
   pub realm : Option (List ℕ)
   -- what the token in the Record-Route line of a request that opens a dialog is made with
   pub token : Option DialogToken
+  -- the address and the port that a Record-Route line names where they are not the own (section 16.6 step 4): those of a front, or of
+  -- several proxies, each of which takes a Route value that leads there as its own
+  pub route : Option Own
+
+-- what a Record-Route line names
+abbrev pub route_of : Setup → Own
+route_of setup = unwrap_or setup.route setup.own
 
 -- by which hop a request goes to a location (section 16.6 step 7): by its own, or else by that of its URI
 abbrev pub hop_or_that_of : Option Hop → Uri → Option Hop

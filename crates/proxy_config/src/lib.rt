@@ -32,7 +32,7 @@ pub use fault::SetupFault;
 pub use form::{Form, Malformed, form_at};
 pub use hops::is_reached;
 pub use law::locations_are_targets;
-pub use line::{SetupLine, read_octets, read_setup_line};
+pub use line::{SetupLine, read_address, read_octets, read_setup_line};
 pub use location::Location;
 pub use parts::{SetupParts, uri_if};
 pub use setup::Setup;

@@ -2,10 +2,11 @@
 ghost use Rattle.std.specs.Prelude.{◌≡◌};
 ghost use Rattle.std.specs.Option.{option_map};
 ghost use Rattle.std.specs.List.{list_all};
+ghost use Rattle.sip_lex.specs.Cut.{cut, is};
 ghost use Rattle.sip_lex.specs.Number.{plain_number_within};
 ghost use Rattle.fork_rank.specs.Field.{number_from, seen_before};
 ghost use Rattle.proxy_config.specs.Line.{is_user, is_visible, most_instance, most_port};
-ghost use Rattle.proxy_config.specs.LineReading.{octet_before, read_octets, read_own, read_location, read_rest, read_line, word_of};
+ghost use Rattle.proxy_config.specs.LineReading.{octet_before, own_cut, read_octets, read_own, read_location, read_rest, read_line, word_of};
 ghost use Rattle.proxy_config.specs.LineView.{line_of};
 
 use fork_rank::{
@@ -100,11 +101,12 @@ fn read_port(digits: &[u8]) -> Option<u16>
     }
 }
 
-/// The address of a host, and a port.
-fn read_own(text: &[u8]) -> Option<Own>
-    ensures { result ≡ read_own text.now }
+/// The address of a host and a port with this mark between them, as the line of the own address has them: an IPv4 address in dotted form, but
+/// not 0.0.0.0, to which no answer could come back, and a port of at least 1, without leading zeros.
+pub fn read_address(text: &[u8], mark: u8) -> Option<Own>
+    ensures { result ≡ own_cut (cut (is mark) text.now) }
 {
-    match cut_at(text, b' ') {
+    match cut_at(text, mark) {
         (_, None) => None,
         (addr, Some(port)) => {
             let addr = read_octets(addr)?;
@@ -115,6 +117,13 @@ fn read_own(text: &[u8]) -> Option<Own>
             Some(Own::over_udp(addr, port))
         }
     }
+}
+
+/// The address of a host, and a port.
+fn read_own(text: &[u8]) -> Option<Own>
+    ensures { result ≡ read_own text.now }
+{
+    read_address(text, b' ')
 }
 
 fn read_instance(digits: &[u8]) -> Option<u32>

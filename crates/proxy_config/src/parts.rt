@@ -69,6 +69,7 @@ impl<A: Allocator> Model for SetupParts<A> {
       ways = [];
       realm = None;
       token = None;
+      route = None;
     } };
 }
 
@@ -194,6 +195,7 @@ impl<A: Allocator + Clone> SetupParts<A> {
             ways: None,
             realm: None,
             token: None,
+            route: None,
         }
     }
 }

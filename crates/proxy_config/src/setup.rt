@@ -6,7 +6,7 @@ ghost use Rattle.proxy_config.specs.Configuration.{IsConfiguration};
 ghost use Rattle.proxy_config.specs.ReadView.{GivesSetup, IsFaultOf};
 ghost use Rattle.proxy_config.specs.Setup as spec;
 ghost use Rattle.proxy_config.specs.Moment.{at_moment, with_ways};
-ghost use Rattle.proxy_config.specs.Setup.{KeepsRulesWith, locations_of, with_ring};
+ghost use Rattle.proxy_config.specs.Setup.{KeepsRulesWith, locations_of, route_of, with_ring};
 ghost use Rattle.proxy_config.specs.Ways.{way_to};
 ghost use Rattle.proxy_config.specs.inner.WaysInside.{ways_in};
 
@@ -26,7 +26,7 @@ use std::alloc::{AllocError, Allocator, Global};
 use std::marker::Model;
 
 /// What a proxy is set up with. `read` makes one, and `with_own_port`, `for_a_service`, `ringing`, `recording`, `stamping`,
-/// `giving_reasons`, `with_streams`, `with_large_by_streams`, `of_realm`, `with_token`, `at_moment` and `with_ways` others of it.
+/// `recording_as`, `giving_reasons`, `with_streams`, `with_large_by_streams`, `of_realm`, `with_token`, `at_moment` and `with_ways` others of it.
 #[derive(Drop)]
 pub struct Setup<A: Allocator = Global> {
     pub(crate) own: Own,
@@ -45,6 +45,7 @@ pub struct Setup<A: Allocator = Global> {
     pub(crate) ways: Option<Vec<Way<A>, A>>,
     pub(crate) realm: Option<Vec<u8, A>>,
     pub(crate) token: Option<DialogToken>,
+    pub(crate) route: Option<Own>,
 }
 
 impl<A: Allocator> Model for Setup<A> {
@@ -72,6 +73,7 @@ impl<A: Allocator> Model for Setup<A> {
       ways = ways_in s.ways;
       realm = option_map (λ r. r.items) s.realm;
       token = s.token;
+      route = s.route;
     } };
 
     ghost invariant = { λ s. IsKeptWith s.streams s.own s.domain.items s.locations };
@@ -182,6 +184,23 @@ impl<A: Allocator> Setup<A> {
         ensures { result ≡ record self { records = true } }
     {
         self.records = true;
+        self
+    }
+
+    /// The address and the port that its Record-Route line names (RFC 3261 section 16.6 step 4). A Route value that leads there is its own, as
+    /// one is that leads to the address that it receives at.
+    pub fn route(&self) -> Own
+        ensures { result ≡ route_of self.now }
+    {
+        self.route.unwrap_or(self.own)
+    }
+
+    /// The same setup, but its Record-Route line names this address and port, which are those of a front, or of several proxies (RFC 3261
+    /// section 16.6 step 4): a Route value that leads there is the proxy's own, too.
+    pub fn recording_as(mut self, route: Own) -> Setup<A>
+        ensures { result ≡ record self { route = Some route } }
+    {
+        self.route = Some(route);
         self
     }
 
@@ -331,6 +350,7 @@ impl<A: Allocator + Clone> Setup<A> {
             ways,
             realm,
             token: self.token,
+            route: self.route,
         })
     }
 
@@ -376,7 +396,7 @@ impl<A: Allocator + Clone> Setup<A> {
     /// `location USER Q URI`. An own address 0.0.0.0 is malformed, for no answer could come back to it. So is a location that
     /// no request can be sent to over UDP, and one whose user has the same target already, or as many locations as may be tried.
     /// The own address counts as the domain with any port, and its Via values are of UDP. Each branch rings for 181,000 ms at
-    /// most, no Record-Route, Timestamp or Reason line is added, nothing goes over TCP, and it has no ways and no realm.
+    /// most, no Record-Route, Timestamp or Reason line is added, one would name the own address, nothing goes over TCP, and it has no ways and no realm.
     ///
     /// # Errors
     ///

@@ -11,7 +11,7 @@ ghost use Rattle.sip_via.specs.ViaParts.{via_of};
 ghost use Rattle.sip_route.specs.Hops.{hops_name};
 ghost use Rattle.sip_route.specs.Routes.{route_name};
 ghost use Rattle.sip_route.specs.RouteValues.{first_route, route_values};
-ghost use Rattle.proxy_config.specs.Setup.{Setup};
+ghost use Rattle.proxy_config.specs.Setup.{Setup, route_of};
 ghost use Rattle.proxy_routing.specs.Admission.{IsPrepared};
 ghost use Rattle.proxy_routing.specs.OwnCredentials.{IsWithoutOwnCredentials};
 ghost use Rattle.proxy_routing.specs.OwnRoutes.{leads_home, without_own_routes};
@@ -34,7 +34,7 @@ pub fn taking_own_routes_keeps_the_rest()
     ensures routes { (setup : Setup) (m : MessageText)
         → (n : ℕ) × (map trim (route_values (without_own_routes setup m)) ≡ drop n (map trim (route_values m))) }
     ensures first { (setup : Setup) (m : MessageText) → setup.for_service ≡ true
-        → leads_home setup.own (first_route (without_own_routes setup m)) ≡ false }
+        → leads_home setup.own (route_of setup) (first_route (without_own_routes setup m)) ≡ false }
 {
     stripping_keeps_the_rest();
 }

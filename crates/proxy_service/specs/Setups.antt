@@ -1,5 +1,6 @@
 -- The configuration of a service.
-use Rattle.std.specs.Prelude.{◌≡◌, ℕ, Bool, true, List, Option, if◌then◌else◌}
+use Rattle.std.specs.Prelude.{◌≡◌, ℕ, Bool, true, List, Option, Some, None, if◌then◌else◌}
+use Rattle.sip_via.specs.declared.own.Own.{Own}
 use Rattle.proxy_config.specs.Setup.{Setup}
 use Rattle.service_config.specs.Configuration.{IsServiceConfiguration}
 use Rattle.service_config.specs.Settings.{Settings, of_own_realm}
@@ -27,8 +28,13 @@ recording_if records settings = if records then record settings { setup = record
 abbrev pub streams_if : (streams : Bool) → Settings → Settings
 streams_if streams settings = if streams then record settings { setup = record settings.setup { streams = true } } else settings
 
+-- that names this address
+abbrev pub recording_as_if : (route : Option Own) → Settings → Settings
+recording_as_if None settings = settings
+recording_as_if (Some route) settings = record settings { setup = record settings.setup { route = Some route } }
+
 abbrev pub by_terms : RunSettings → Settings → Settings
-by_terms terms settings = streams_if terms.streams (recording_if terms.records (by_port_if terms.own_port (of_service settings)))
+by_terms terms settings = streams_if terms.streams (recording_as_if terms.route (recording_if terms.records (by_port_if terms.own_port (of_service settings))))
 
 -- and, where there is a realm, as of_own_realm says
 abbrev pub service_settings : RunSettings → Settings → Settings

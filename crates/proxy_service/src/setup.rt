@@ -1,12 +1,13 @@
 //! The configuration of a service.
 ghost use Rattle.std.specs.Prelude.{◌≡◌, ◌↔◌, IfErr, IfOk, IsTrue};
 ghost use Rattle.std.specs.Option.{option_copied};
-ghost use Rattle.proxy_service.specs.Setups.{IsOf, IsReloadFault, IsServiceConfigured, by_port_if, by_terms, recording_if, service_settings, streams_if};
+ghost use Rattle.proxy_service.specs.Setups.{IsOf, IsReloadFault, IsServiceConfigured, by_port_if, by_terms, recording_as_if, recording_if, service_settings, streams_if};
 
 use crate::terms::RunSettings;
 use fork_call::Setup;
 use service_config::ServiceSettings;
 use service_files::{Configuration, DaemonFault, Identity, read_text};
+use sip_via::Own;
 use std::alloc::{AllocError, Allocator};
 
 /// The settings with the own address counting as the domain with the own port alone, if that is asked for.
@@ -42,14 +43,28 @@ fn streams_if<A: Allocator>(settings: ServiceSettings<A>, streams: bool) -> Serv
     }
 }
 
+/// The settings with a Record-Route line that names this address, if there is another one than the own.
+fn recording_as_if<A: Allocator>(
+    settings: ServiceSettings<A>,
+    route: Option<Own>,
+) -> ServiceSettings<A>
+    ensures { result ≡ recording_as_if route settings }
+{
+    match route {
+        None => settings,
+        Some(route) => settings.recording_as(route),
+    }
+}
+
 /// Settings as a service goes by them, but for the realm: all Route values at the front of a request that lead to the proxy are taken away;
 /// a 100 has the Timestamp of its request, and a CANCEL says why; the own address counts as the domain with the own port alone, a request
-/// that opens a dialog has a Record-Route line, and requests may go by connections, where the terms say so.
+/// that opens a dialog has a Record-Route line, which names the address of the terms, and requests may go by connections, where the terms say so.
 fn by_terms<A: Allocator>(settings: ServiceSettings<A>, terms: &RunSettings) -> ServiceSettings<A>
     ensures { result ≡ by_terms terms.now settings }
 {
     let settings = settings.for_a_service().stamping().giving_reasons();
     let settings = recording_if(by_port_if(settings, terms.own_port), terms.records);
+    let settings = recording_as_if(settings, terms.route);
     streams_if(settings, terms.streams)
 }
 

@@ -1,5 +1,6 @@
 //! What a service keeps to.
 use service_files::Identity;
+use sip_via::Own;
 
 /// What a service keeps to as long as it runs, whichever configuration it reads meanwhile.
 #[derive(Clone, Copy)]
@@ -9,6 +10,8 @@ pub struct RunSettings {
     pub number: u32,
     /// Whether it stays on the path of the dialogs that pass it.
     pub records: bool,
+    /// The address and port that its Record-Route line names, where they are not its own.
+    pub route: Option<Own>,
     /// Whether its own address counts as its domain with its own port alone.
     pub own_port: bool,
     /// Whether requests may go by connections.

@@ -114,7 +114,8 @@ fn is_of_its_kind(alloc: Global, row: &CallRow, message: &Message<Global>) -> bo
         return false;
     };
     registers == is_registering(row.decided)
-        && (!is_in_dialog(row.decided) || is_of_dialog(&SECRET, domain.own, SECOND, message))
+        && (!is_in_dialog(row.decided)
+            || is_of_dialog(&SECRET, domain.own, domain.route, SECOND, message))
 }
 
 /// Whether it is decided of a request what has to be, in this realm or in none.
@@ -153,5 +154,34 @@ pub fn decides(alloc: Global, has_realm: bool, row: &CallRow) -> bool {
         decides_in(alloc, Some(&realm), row, &message)
     } else {
         decides_in(alloc, None, row, &message)
+    }
+}
+
+/// A Route line that begins so, with the token of a dialog behind that.
+fn route_by(alloc: Global, front: &[u8]) -> Result<Vec<u8, Global>, AllocError> {
+    let mut text = Vec::from_slice(alloc, front)?;
+    append_dialog_token(&mut text, &SECRET, b"c1", SECOND)?;
+    text.extend_from_slice(b">\r\n")?;
+    Ok(text)
+}
+
+/// The end of a dialog, without its Route line.
+const BYE: &[u8] = b"Via: SIP/2.0/UDP 198.51.100.7:5060;branch=z9hG4bKd\r\n\
+Max-Forwards: 70\r\n\
+From: <sip:eve@elsewhere.example>;tag=1\r\n\
+To: <sip:carol@elsewhere.example>;tag=2\r\n\
+Call-ID: c1\r\n\
+CSeq: 2 BYE\r\n";
+
+/// Whether a request is of a dialog whose Route line begins so, with the token of its Call-ID behind that.
+pub fn is_of_dialog_by(alloc: Global, front: &[u8]) -> Option<bool> {
+    let Ok(route) = route_by(alloc, front) else {
+        return None;
+    };
+    let domain = domain();
+    let start = b"BYE sip:carol@203.0.113.1 SIP/2.0\r\n";
+    match request(alloc, start, BYE, &route) {
+        None => None,
+        Some(message) => Some(is_of_dialog(&SECRET, domain.own, domain.route, SECOND, &message)),
     }
 }

@@ -1,6 +1,6 @@
 //! Who may open a call, row by row.
 use crate::answers::Wanted;
-use crate::calling::{CallRow, Decided, Token, decides};
+use crate::calling::{CallRow, Decided, Token, decides, is_of_dialog_by};
 use crate::holds::holds;
 use crate::passwords::{BOBS, Password};
 use authentication::{Rule, requests_are_decided_in_one_way, strangers_open_nothing_else};
@@ -278,4 +278,20 @@ fn nobody_has_a_password_without_a_realm(rt: HostRuntime) {
     };
     holds(&rt, decides(rt.alloc(), false, &plain), "no credentials");
     holds(&rt, decides(rt.alloc(), false, &given), "credentials");
+}
+
+#[test]
+fn a_dialog_is_known_by_either_address(rt: HostRuntime) {
+    let rows: [(&[u8], bool, &str); 3] = [
+        (b"Route: <sip:192.0.2.9:5060;lr;d=", true, "the own one"),
+        (
+            b"Route: <sip:192.0.2.10:5061;lr;d=",
+            true,
+            "the one that Record-Route lines name",
+        ),
+        (b"Route: <sip:192.0.2.10:5060;lr;d=", false, "another port"),
+    ];
+    for (front, is, what) in rows {
+        holds(&rt, is_of_dialog_by(rt.alloc(), front) == Some(is), what);
+    }
 }

@@ -22,6 +22,7 @@ pub fn domain() -> Domain<'static> {
     Domain {
         name: b"example.com",
         own: Own::over_udp([192, 0, 2, 9], 5060),
+        route: Own::over_udp([192, 0, 2, 10], 5061),
         by_port: false,
         streams: false,
     }

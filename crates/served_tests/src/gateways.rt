@@ -3,11 +3,12 @@ use crate::histories::{AWAY, GATEWAY, INSIDE, INVITE, REGISTER};
 use crate::holds::holds;
 use crate::outgoing::{Outgoing, Sent};
 use crate::rows::USERS;
-use crate::turns::{Asked, Goes, missed, sends, sent_for, service_of};
+use crate::turns::{Asked, Goes, missed, sends, sent_for, service_by, service_of};
 use proxy_dispatch::Received;
 use proxy_service::Service;
 use sip_lex::cut_at;
 use sip_uri::{Hop, Transport};
+use sip_via::Own;
 use std::alloc::Global;
 use std::sync::Wait;
 use std::time::Clock;
@@ -120,6 +121,67 @@ fn a_token_is_good_within_its_dialog(rt: HostRuntime) {
         None => false,
     };
     holds(&rt, well, "tokens of dialogs");
+}
+
+// ---- by the address of a front
+
+/// The end of the dialog, by the address of a front.
+const BYE_BY_FRONT: Asked = Asked {
+    lines: "Route: <sip:192.0.2.1:5070;lr;d=692a9b804d520b24ed3eb2e5>\r\n",
+    ..BYE
+};
+
+/// A call by one who is trusted, and the Record-Route line that it goes on with.
+const CALL_BY_FRONT: (Asked, Goes) = (
+    Asked {
+        uri: "sip:carol@203.0.113.1",
+        to: "<sip:carol@elsewhere.example>",
+        call: "f1",
+        ..INVITE
+    },
+    Goes {
+        to: Hop {
+            addr: [203, 0, 113, 1],
+            port: 5060,
+            transport: Transport::Udp,
+        },
+        front: "INVITE sip:carol@203.0.113.1 SIP/2.0\r\n",
+        part: "\r\nRecord-Route: <sip:192.0.2.1:5070;lr;d=692a9b81",
+    },
+);
+
+/// What goes by a service whose Record-Route line names a front: the end of a dialog, also by its own address, and a call.
+const BY_FRONT: &[(Asked, Goes)] = &[
+    (BYE_BY_FRONT, GOES),
+    (Asked { cseq: 8, ..BYE }, GOES),
+    CALL_BY_FRONT,
+];
+
+fn by_front() -> &'static [(Asked, Goes)] {
+    BY_FRONT
+}
+
+/// The same by any other.
+const BY_NO_FRONT: &[(Asked, Goes)] = &[(BYE_BY_FRONT, FORBIDDEN)];
+
+fn by_no_front() -> &'static [(Asked, Goes)] {
+    BY_NO_FRONT
+}
+
+#[test]
+fn a_dialog_goes_by_the_address_of_a_front(rt: HostRuntime) {
+    let alloc = rt.alloc();
+    let front = Own::over_udp([192, 0, 2, 1], 5070);
+    let well = match service_by(alloc, REALM, Some(USERS), front) {
+        Some(service) => missed(&rt, alloc, &service, by_front()).is_none(),
+        None => false,
+    };
+    holds(&rt, well, "a front that it stays on the path by");
+    let well = match service_of(alloc, REALM, Some(USERS), 100) {
+        Some(service) => missed(&rt, alloc, &service, by_no_front()).is_none(),
+        None => false,
+    };
+    holds(&rt, well, "one that it knows nothing of");
 }
 
 // ---- to the world

@@ -5,6 +5,7 @@ use proxy_dispatch::Received;
 use proxy_service::{RunSettings, Service};
 use service_files::{Identity, read_text};
 use sip_uri::Hop;
+use sip_via::Own;
 use std::alloc::{AllocError, Global};
 use std::sync::Wait;
 use std::time::Clock;
@@ -92,19 +93,21 @@ fn is_sent(sent: &Sent, goes: &Goes) -> bool {
 }
 
 /// A service that has begun to serve by this configuration, with these users, if it has a realm, and with room for so many bindings, which
-/// are kept elsewhere, too, or are not.
+/// are kept elsewhere, too, or are not; its Record-Route line names this address, where that is not its own.
 fn begun(
     alloc: Global,
     text: &[u8],
     users: Option<&[u8]>,
     most_bindings: u32,
     has_store: bool,
+    route: Option<Own>,
 ) -> Option<Service> {
     let configuration = read_text(alloc, text, users, 1).ok()?;
     let terms = RunSettings {
         identity: Identity::of(configuration.settings.setup()),
         number: 1,
         records: false,
+        route,
         own_port: false,
         streams: false,
         most_calls: 100,
@@ -124,12 +127,17 @@ pub fn service_of(
     users: Option<&[u8]>,
     most_bindings: u32,
 ) -> Option<Service> {
-    begun(alloc, text, users, most_bindings, false)
+    begun(alloc, text, users, most_bindings, false, None)
+}
+
+/// One whose Record-Route line names this address.
+pub fn service_by(alloc: Global, text: &[u8], users: Option<&[u8]>, route: Own) -> Option<Service> {
+    begun(alloc, text, users, 100, false, Some(route))
 }
 
 /// One whose bindings are kept elsewhere, too.
 pub fn storing_service_of(alloc: Global, text: &[u8], users: Option<&[u8]>) -> Option<Service> {
-    begun(alloc, text, users, 100, true)
+    begun(alloc, text, users, 100, true, None)
 }
 
 /// What goes out as a request comes.

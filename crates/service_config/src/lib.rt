@@ -22,7 +22,7 @@ mod users_fault;
 
 pub use expirations::Expirations;
 pub use gateway::Gateway;
-pub use line::is_realm;
+pub use line::{is_realm, read_net};
 pub use net::Net;
 pub use password_line::{UserLineFault, user_line};
 pub use realm::Realm;

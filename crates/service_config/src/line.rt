@@ -212,7 +212,8 @@ fn net_at(addr: [u8; 4], digits: &[u8]) -> Option<Net>
     net_if(addr, bits as u8)
 }
 
-fn read_net(text: &[u8]) -> Option<Net>
+/// The net that `A.B.C.D/N` spells: N is at most 32, no number has leading zeros, and all bits behind the first N are 0 (RFC 4632 section 3.1).
+pub fn read_net(text: &[u8]) -> Option<Net>
     ensures { result ≡ read_net text.now }
 {
     match cut_at(text, b'/') {

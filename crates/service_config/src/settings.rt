@@ -1,5 +1,5 @@
 //! What a service is set up with.
-ghost use Rattle.std.specs.Prelude.{◌≡◌, IfErr, IfOk, Ok, true};
+ghost use Rattle.std.specs.Prelude.{◌≡◌, IfErr, IfOk, Ok, Some, true};
 ghost use Rattle.std.specs.Option.{option_map};
 ghost use Rattle.service_config.specs.Configuration.{IsServiceConfiguration};
 ghost use Rattle.service_config.specs.Settings as spec;
@@ -14,6 +14,7 @@ use crate::hosts::Hosts;
 use crate::net::{LOOPBACK, Net, address_number, any_has};
 use crate::realm::{OwnRealm, Realm};
 use proxy_config::{Setup, SetupFault};
+use sip_via::Own;
 use std::alloc::{AllocError, Allocator, Global};
 use std::marker::Model;
 
@@ -164,6 +165,14 @@ impl<A: Allocator> ServiceSettings<A> {
         ensures { result ≡ record self { setup = record self.setup { records = true } } }
     {
         self.setup = self.setup.recording();
+        self
+    }
+
+    /// The same settings, with the setup of [`Setup::recording_as`].
+    pub fn recording_as(mut self, route: Own) -> ServiceSettings<A>
+        ensures { result ≡ record self { setup = record self.setup { route = Some route } } }
+    {
+        self.setup = self.setup.recording_as(route);
         self
     }
 

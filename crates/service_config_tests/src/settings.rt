@@ -2,7 +2,7 @@
 use crate::holds::{holds, settings_of};
 use service_config::{Expirations, Gateway, Net, Realm, ServiceSettings};
 use sip_digest::Algorithms;
-use sip_uri::Hop;
+use sip_uri::{Hop, Transport};
 use sip_via::Own;
 use std::alloc::{AllocError, Global};
 use std::process::Abort;
@@ -149,6 +149,13 @@ fn a_realm_without_algorithms_challenges_by_md5(rt: HostRuntime) {
     holds(&rt, is_of_md5(rt.alloc()), "MD5 alone");
 }
 
+/// Where a front stands.
+const FRONT: Own = Own {
+    addr: [192, 0, 2, 1],
+    port: 5070,
+    transport: Transport::Udp,
+};
+
 /// Whether a service's settings have its setup, and keep all else.
 fn is_of_a_service(alloc: Global) -> bool {
     let Some(settings) = settings_of(alloc, TEXT) else {
@@ -158,12 +165,14 @@ fn is_of_a_service(alloc: Global) -> bool {
         .for_a_service()
         .with_own_port()
         .recording()
+        .recording_as(FRONT)
         .stamping()
         .giving_reasons();
     let setup = settings.setup();
     let is_set = setup.is_for_a_service()
         && setup.by_port()
         && setup.records()
+        && setup.route() == FRONT
         && setup.stamps()
         && setup.gives_reasons();
     is_set && settings.serves_strangers() && settings.into_setup().ring() == 15_000

@@ -1,6 +1,6 @@
 //! Whom a service trusts.
 use crate::holds::{holds, settings_of};
-use service_config::{Net, ServiceSettings};
+use service_config::{Net, ServiceSettings, read_net};
 use std::process::Abort;
 
 /// A configuration with a net, a gateway and a location.
@@ -91,4 +91,16 @@ fn a_net_has_the_addresses_with_its_first_bits(rt: HostRuntime) {
         bits: 0,
     };
     holds(&rt, all.has([255; 4]) && all.has([0; 4]), "all addresses");
+}
+
+#[test]
+fn a_net_is_read_by_itself(rt: HostRuntime) {
+    let net = Net {
+        addr: [10, 1, 0, 0],
+        bits: 16,
+    };
+    holds(&rt, read_net(b"10.1.0.0/16") == Some(net), "a net");
+    for text in ["10.1.0.0", "10.1.0.1/16", "10.1.0.0/33", "10.1.0.0/016"] {
+        holds(&rt, read_net(text.as_bytes()).is_none(), text);
+    }
 }

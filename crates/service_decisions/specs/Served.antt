@@ -10,7 +10,7 @@ use Rattle.authentication.specs.declared.decision.Arrival.{Arrival}
 use Rattle.authentication.specs.declared.domain.Domain.{Domain}
 use Rattle.authentication.specs.Decision as authentication
 use Rattle.bindings.specs.Bindings.{Binding, there}
-use Rattle.proxy_config.specs.Setup.{Setup, locations_of}
+use Rattle.proxy_config.specs.Setup.{Setup, locations_of, route_of}
 use Rattle.proxy_dispatch.specs.Admitting as dispatch
 use Rattle.service_config.specs.Settings.{is_trusted}
 use Rattle.service_decisions.specs.Targets.{Place, OfUser, Beyond, Nowhere, bound_contact, is_none_of, may_use_gateways, place_of, setup_for}
@@ -72,6 +72,7 @@ arrival_of serving setup m source held = record {
 pub record IsDomainOf (setup : Setup) (domain : Domain) : Type 0 where
   pub name : domain.name.now ≡ setup.domain
   pub own : domain.own ≡ setup.own
+  pub route : domain.route ≡ route_of setup
   pub by_port : domain.by_port ≡ setup.by_port
   pub streams : domain.streams ≡ setup.streams
 

@@ -121,6 +121,7 @@ impl<'a, A: Allocator + Clone> ServiceView<'a, A> {
         Domain {
             name: setup.domain(),
             own: setup.own(),
+            route: setup.route(),
             by_port: setup.by_port(),
             streams: setup.has_streams(),
         }

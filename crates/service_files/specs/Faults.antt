@@ -1,5 +1,6 @@
 -- Why a proxy does not serve, or serves no longer.
-use Rattle.std.specs.Prelude.{◌<◌, ◌≤◌, ℕ, List, Option, length}
+use Rattle.std.specs.Prelude.{◌<◌, ◌≤◌, ◌-◌, ℕ, List, Option, Some, None, length}
+use Rattle.sip_via.specs.declared.own.Own.{Own}
 use Rattle.service_config.specs.Configuration.{IsMalformedAt}
 use Rattle.service_config.specs.declared.users_fault.UsersFault.{UsersFault}
 use Rattle.service_config.specs.declared.users_fault.UsersFault.TheVariants as users
@@ -21,6 +22,16 @@ exit_status fault.Control = 5
 exit_status fault.Metrics = 5
 exit_status fault.Journal = 5
 exit_status fault.Store = 5
+exit_status fault.Secret = 1
+
+abbrev pub one_line_up : DaemonFault → DaemonFault
+one_line_up (fault.Line n) = fault.Line (n - 1)
+one_line_up other = other
+
+-- of the file of a configuration, before whose text the line of an own address stood that is said elsewhere, if one is
+abbrev pub in_file : Option Own → DaemonFault → DaemonFault
+in_file None f = f
+in_file (Some own) f = one_line_up f
 
 -- a configuration has at most so many bytes
 abbrev pub most_text : ℕ
@@ -89,6 +100,12 @@ abbrev pub IsStoreFault : DaemonFault → Type 0
 IsStoreFault fault.Store = Unit {0}
 IsStoreFault fault.NoMemory = Unit {0}
 IsStoreFault _ = ⊥
+
+-- why the file of the secret cannot be read
+abbrev pub IsSecretFault : DaemonFault → Type 0
+IsSecretFault fault.Secret = Unit {0}
+IsSecretFault fault.NoMemory = Unit {0}
+IsSecretFault _ = ⊥
 
 -- why the file of the users cannot be read
 abbrev pub IsUsersFault : DaemonFault → Type 0

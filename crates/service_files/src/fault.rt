@@ -1,9 +1,10 @@
 //! Why a proxy does not serve, or serves no longer.
 ghost use Rattle.std.specs.Prelude.{◌≡◌};
 ghost use Rattle.service_files.specs.declared.fault.DaemonFault.TheVariants as faults;
-ghost use Rattle.service_files.specs.Faults.{exit_status, IsConfigurationFault, IsControlFault, IsJournalFault, IsMetricsFault, IsSocketFault, IsUsersFault};
+ghost use Rattle.service_files.specs.Faults.{exit_status, IsConfigurationFault, IsControlFault, IsJournalFault, IsMetricsFault, IsSecretFault, IsSocketFault, IsUsersFault, in_file, one_line_up};
 
 use service_config::UsersFault;
+use sip_via::Own;
 use std::alloc::AllocError;
 use std::io;
 use std::io::ErrorKind;
@@ -52,6 +53,9 @@ pub enum DaemonFault {
     /// The file in which bindings are kept could not be used.
     #[error("the store cannot be used")]
     Store,
+    /// The file of the secret that several proxies share cannot be read, or has anything but 64 hexadecimal digits.
+    #[error("the secret cannot be read: its file has 64 hexadecimal digits")]
+    Secret,
 }
 
 impl DaemonFault {
@@ -64,7 +68,8 @@ impl DaemonFault {
             | DaemonFault::TooLong
             | DaemonFault::Line(_)
             | DaemonFault::Users(_)
-            | DaemonFault::Identity => 1,
+            | DaemonFault::Identity
+            | DaemonFault::Secret => 1,
             DaemonFault::NoMemory => 3,
             DaemonFault::Clock
             | DaemonFault::Random
@@ -73,6 +78,43 @@ impl DaemonFault {
             | DaemonFault::Metrics
             | DaemonFault::Journal
             | DaemonFault::Store => 5,
+        }
+    }
+}
+
+impl DaemonFault {
+    /// The same fault, but a line has the number before its own.
+    fn one_line_up(self) -> DaemonFault
+        ensures { result ≡ one_line_up self }
+    {
+        match self {
+            DaemonFault::Unreadable => DaemonFault::Unreadable,
+            DaemonFault::TooLong => DaemonFault::TooLong,
+            DaemonFault::Line(number) => DaemonFault::Line(number.saturating_sub(1)),
+            DaemonFault::Users(why) => DaemonFault::Users(why),
+            DaemonFault::Identity => DaemonFault::Identity,
+            DaemonFault::NoMemory => DaemonFault::NoMemory,
+            DaemonFault::Clock => DaemonFault::Clock,
+            DaemonFault::Random => DaemonFault::Random,
+            DaemonFault::Socket => DaemonFault::Socket,
+            DaemonFault::Control => DaemonFault::Control,
+            DaemonFault::Metrics => DaemonFault::Metrics,
+            DaemonFault::Journal => DaemonFault::Journal,
+            DaemonFault::Store => DaemonFault::Store,
+            DaemonFault::Secret => DaemonFault::Secret,
+        }
+    }
+
+    /// The same fault of the file of a configuration, where the own address is said elsewhere, if it is: then the text that was read has its line
+    /// before all lines of the file ([`crate::own_line::text_at`]).
+    #[tactic(auto, using(crate::proofs::Faults::in_file_read))]
+    pub fn in_file(self, own: Option<Own>) -> DaemonFault
+        ensures value { result ≡ in_file own self }
+        ensures read { IsConfigurationFault self → IsConfigurationFault result }
+    {
+        match own {
+            None => self,
+            Some(_) => self.one_line_up(),
         }
     }
 }
@@ -119,6 +161,16 @@ pub fn users_fault(error: io::Error) -> DaemonFault
     match error.kind() {
         ErrorKind::OutOfMemory => DaemonFault::NoMemory,
         _ => DaemonFault::Users(UsersFault::Unreadable),
+    }
+}
+
+/// Why the secret cannot be read: the system refuses, or has no memory.
+pub fn secret_fault(error: io::Error) -> DaemonFault
+    ensures { IsSecretFault result }
+{
+    match error.kind() {
+        ErrorKind::OutOfMemory => DaemonFault::NoMemory,
+        _ => DaemonFault::Secret,
     }
 }
 

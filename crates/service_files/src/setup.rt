@@ -8,6 +8,7 @@ ghost use Rattle.service_files.specs.Faults.{most_text, IsConfigurationFault, Is
 
 use crate::fault::{DaemonFault, configuration_fault, users_fault};
 use crate::files::ProxyFiles;
+use crate::own_line::text_at;
 use proxy_config::{Setup, SetupFault};
 use service_config::{ServiceSettings, UsersFault};
 use sip_digest::{Algorithms, UserFault, UserList};
@@ -130,16 +131,25 @@ pub fn read_text<A: Allocator + Clone>(
     }
 }
 
-/// The text of a configuration's file; of one that is too long as much as tells so.
+/// The text that a proxy goes by whose configuration is in a file, with the line of this address in place of the file's own where the address is said
+/// elsewhere ([`text_at`]); of a file that is too long as much as tells so.
 ///
 /// # Errors
 ///
 /// `Unreadable` where the system refuses, and `NoMemory`.
-pub fn read_config<R: ProxyFiles>(rt: &R, alloc: Global, path: &str) -> Result<Vec<u8>, DaemonFault>
+pub fn read_config<R: ProxyFiles>(
+    rt: &R,
+    alloc: Global,
+    path: &str,
+    own: Option<Own>,
+) -> Result<Vec<u8>, DaemonFault>
     ensures { IfErr result IsConfigurationFault }
 {
     match rt.read_file(alloc, path, MOST_TEXT) {
-        Ok(text) => Ok(text),
+        Ok(text) => match text_at(alloc, own, text) {
+            Ok(text) => Ok(text),
+            Err(_) => Err(DaemonFault::NoMemory),
+        },
         Err(error) => Err(configuration_fault(error)),
     }
 }
@@ -170,29 +180,47 @@ pub fn read_users<R: ProxyFiles>(
     }
 }
 
-/// Looks at a configuration's file and at that of its users, or, where none is named, at the configuration alone.
+/// Looks at the text of a configuration and at the file of its users, or, where none is named, at the text alone.
+fn check_text<R: ProxyFiles>(
+    rt: &R,
+    alloc: Global,
+    text: &[u8],
+    users: Option<&str>,
+) -> Result<(), DaemonFault>
+    ensures { IfErr result IsConfigurationFault }
+{
+    match read_users(rt, alloc, users)? {
+        None => {
+            let settings = settings_in(&alloc, text, 0)?;
+            drop(settings);
+        }
+        Some(users) => {
+            let configuration = read_text(alloc, text, Some(&users), 0)?;
+            drop(configuration);
+        }
+    }
+    Ok(())
+}
+
+/// Looks at a configuration's file and at that of its users, or, where none is named, at the configuration alone; where the own address is said
+/// elsewhere, it stands in place of the file's.
 ///
 /// # Errors
 ///
-/// `Unreadable` where the system refuses; else those of [`read_text`], without those of users where no file of them is named.
+/// `Unreadable` where the system refuses; else those of [`read_text`], without those of users where no file of them is named, and with the
+/// numbers that lines have in the file.
 pub fn check_files<R: ProxyFiles>(
     rt: &R,
     alloc: Global,
     config: &str,
     users: Option<&str>,
+    own: Option<Own>,
 ) -> Result<(), DaemonFault>
     ensures { IfErr result IsConfigurationFault }
 {
-    let text = read_config(rt, alloc, config)?;
-    match read_users(rt, alloc, users)? {
-        None => {
-            let settings = settings_in(&alloc, &text, 0)?;
-            drop(settings);
-        }
-        Some(users) => {
-            let configuration = read_text(alloc, &text, Some(&users), 0)?;
-            drop(configuration);
-        }
+    let text = read_config(rt, alloc, config, own)?;
+    match check_text(rt, alloc, &text, users) {
+        Ok(()) => Ok(()),
+        Err(fault) => Err(fault.in_file(own)),
     }
-    Ok(())
 }

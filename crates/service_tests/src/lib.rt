@@ -18,6 +18,8 @@ mod counters;
 #[cfg(test)]
 mod deadlines;
 #[cfg(test)]
+mod elsewhere;
+#[cfg(test)]
 mod files;
 #[cfg(test)]
 mod forgetting;

@@ -178,7 +178,7 @@ const FILE: &str = "daemon_parts_test_config";
 
 /// Why a proxy is not started by the files, of which that of the users may be missing, if it is not.
 fn refused_by<R: ProxyFiles>(rt: &R, alloc: Global, users: Option<&str>) -> Option<DaemonFault> {
-    match check_files(rt, alloc, FILE, users) {
+    match check_files(rt, alloc, FILE, users, None) {
         Ok(()) => None,
         Err(fault) => Some(fault),
     }
@@ -186,7 +186,7 @@ fn refused_by<R: ProxyFiles>(rt: &R, alloc: Global, users: Option<&str>) -> Opti
 
 /// Whether the files are read as they stand.
 fn are_read<R: ProxyFiles>(rt: &R, alloc: Global) -> bool {
-    let text = read_config(rt, alloc, FILE);
+    let text = read_config(rt, alloc, FILE, None);
     let users = read_users(rt, alloc, Some(FILE));
     let is_text = match &text {
         Ok(text) => text.as_slice() == OF_REALM,

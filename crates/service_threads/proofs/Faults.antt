@@ -1,12 +1,14 @@
 -- Each fault of a part is one of the whole.
+use Rattle.std.proofs.Common.{◌≡◌, subst, sym}
 use Rattle.std.specs.Prelude.{◌≤◌, ℕ, List, Option, Some, None, Result, Ok, Err, IfErr, length}
+use Rattle.sip_via.specs.declared.own.Own.{Own}
 use Rattle.sip_digest.specs.declared.algorithm.Algorithms.{Algorithms}
 use Rattle.sip_digest.specs.declared.users.UserList.{UserList}
 use Rattle.service_files.specs.Configured.{AreUsers, IsConfigured, SpellsUsers, algorithms_in}
 use Rattle.service_files.specs.declared.setup.Configuration.{Configuration}
 use Rattle.service_files.specs.declared.fault.DaemonFault.{DaemonFault}
 use Rattle.service_files.specs.declared.fault.DaemonFault.TheVariants as fault
-use Rattle.service_files.specs.Faults.{most_text, IsConfigurationFault, IsControlFault, IsFaultOf, IsJournalFault, IsMetricsFault, IsSocketFault, IsStoreFault}
+use Rattle.service_files.specs.Faults.{most_text, IsConfigurationFault, IsControlFault, IsFaultOf, IsJournalFault, IsMetricsFault, IsSecretFault, IsSocketFault, IsStoreFault, in_file, one_line_up}
 use Rattle.service_threads.specs.Faults.{IsServeFault, IsServeFaultOf, IsSystemFault, Spells}
 
 pub socket_is_system : (f : DaemonFault) → IsSocketFault f → IsSystemFault f
@@ -23,6 +25,7 @@ socket_is_system fault.Control is = absurd is
 socket_is_system fault.Metrics is = absurd is
 socket_is_system fault.Journal is = absurd is
 socket_is_system fault.Store is = absurd is
+socket_is_system fault.Secret is = absurd is
 
 pub control_is_system : (f : DaemonFault) → IsControlFault f → IsSystemFault f
 control_is_system fault.Control is = tt
@@ -38,11 +41,13 @@ control_is_system fault.Socket is = absurd is
 control_is_system fault.Metrics is = absurd is
 control_is_system fault.Journal is = absurd is
 control_is_system fault.Store is = absurd is
+control_is_system fault.Secret is = absurd is
 
 pub metrics_is_system : (f : DaemonFault) → IsMetricsFault f → IsSystemFault f
 metrics_is_system fault.Metrics is = tt
 metrics_is_system fault.Journal is = absurd is
 metrics_is_system fault.Store is = absurd is
+metrics_is_system fault.Secret is = absurd is
 metrics_is_system fault.NoMemory is = tt
 metrics_is_system fault.Unreadable is = absurd is
 metrics_is_system fault.TooLong is = absurd is
@@ -57,6 +62,7 @@ metrics_is_system fault.Control is = absurd is
 pub journal_is_system : (f : DaemonFault) → IsJournalFault f → IsSystemFault f
 journal_is_system fault.Journal is = tt
 journal_is_system fault.Store is = absurd is
+journal_is_system fault.Secret is = absurd is
 journal_is_system fault.NoMemory is = tt
 journal_is_system fault.Unreadable is = absurd is
 journal_is_system fault.TooLong is = absurd is
@@ -71,6 +77,7 @@ journal_is_system fault.Metrics is = absurd is
 
 pub store_is_system : (f : DaemonFault) → IsStoreFault f → IsSystemFault f
 store_is_system fault.Store is = tt
+store_is_system fault.Secret is = absurd is
 store_is_system fault.NoMemory is = tt
 store_is_system fault.Unreadable is = absurd is
 store_is_system fault.TooLong is = absurd is
@@ -83,6 +90,22 @@ store_is_system fault.Socket is = absurd is
 store_is_system fault.Control is = absurd is
 store_is_system fault.Metrics is = absurd is
 store_is_system fault.Journal is = absurd is
+
+pub secret_is_system : (f : DaemonFault) → IsSecretFault f → IsSystemFault f
+secret_is_system fault.Secret is = tt
+secret_is_system fault.NoMemory is = tt
+secret_is_system fault.Unreadable is = absurd is
+secret_is_system fault.TooLong is = absurd is
+secret_is_system (fault.Line n) is = absurd is
+secret_is_system (fault.Users why) is = absurd is
+secret_is_system fault.Identity is = absurd is
+secret_is_system fault.Clock is = absurd is
+secret_is_system fault.Random is = absurd is
+secret_is_system fault.Socket is = absurd is
+secret_is_system fault.Control is = absurd is
+secret_is_system fault.Metrics is = absurd is
+secret_is_system fault.Journal is = absurd is
+secret_is_system fault.Store is = absurd is
 
 spelled_users : {A : Type 0} (algorithms : Option Algorithms) (text : Option (List ℕ)) (list : Option (UserList A)) → AreUsers algorithms text list → SpellsUsers algorithms text
 spelled_users (Some a) (Some t) (Some l) are = (are.0, are.1)
@@ -112,6 +135,7 @@ read_is_serve text users number fault.Control is = absurd is
 read_is_serve text users number fault.Metrics is = absurd is
 read_is_serve text users number fault.Journal is = absurd is
 read_is_serve text users number fault.Store is = absurd is
+read_is_serve text users number fault.Secret is = absurd is
 
 pub system_is_serve : (text : List ℕ) (users : Option (List ℕ)) (number : ℕ) (f : DaemonFault) → length text ≤ most_text → Spells text users number → IsSystemFault f → IsServeFaultOf text users number f
 system_is_serve text users number fault.NoMemory fits spells is = fits
@@ -121,6 +145,7 @@ system_is_serve text users number fault.Control fits spells is = (fits, spells)
 system_is_serve text users number fault.Metrics fits spells is = (fits, spells)
 system_is_serve text users number fault.Journal fits spells is = (fits, spells)
 system_is_serve text users number fault.Store fits spells is = (fits, spells)
+system_is_serve text users number fault.Secret fits spells is = (fits, spells)
 system_is_serve text users number fault.Unreadable fits spells is = absurd is
 system_is_serve text users number fault.TooLong fits spells is = absurd is
 system_is_serve text users number (fault.Line n) fits spells is = absurd is
@@ -145,6 +170,7 @@ configuration_is_serve fault.Control is = tt
 configuration_is_serve fault.Metrics is = tt
 configuration_is_serve fault.Journal is = tt
 configuration_is_serve fault.Store is = tt
+configuration_is_serve fault.Secret is = tt
 configuration_is_serve fault.Identity is = absurd is
 
 pub text_is_serve : (text : List ℕ) (users : Option (List ℕ)) (number : ℕ) (f : DaemonFault) → IsServeFaultOf text users number f → IsServeFault f
@@ -160,4 +186,29 @@ text_is_serve text users number fault.Control is = tt
 text_is_serve text users number fault.Metrics is = tt
 text_is_serve text users number fault.Journal is = tt
 text_is_serve text users number fault.Store is = tt
+text_is_serve text users number fault.Secret is = tt
 text_is_serve text users number fault.Identity is = absurd is
+
+up_serves : (f : DaemonFault) → IsServeFault f → IsServeFault (one_line_up f)
+up_serves fault.Unreadable is = tt
+up_serves fault.TooLong is = tt
+up_serves (fault.Line n) is = tt
+up_serves (fault.Users why) is = tt
+up_serves fault.NoMemory is = tt
+up_serves fault.Clock is = tt
+up_serves fault.Random is = tt
+up_serves fault.Socket is = tt
+up_serves fault.Control is = tt
+up_serves fault.Metrics is = tt
+up_serves fault.Journal is = tt
+up_serves fault.Store is = tt
+up_serves fault.Secret is = tt
+up_serves fault.Identity is = absurd is
+
+at_serves : (own : Option Own) (f : DaemonFault) → IsServeFault f → IsServeFault (in_file own f)
+at_serves None f is = is
+at_serves (Some own) f is = up_serves f is
+
+-- the number of a line is that of its file
+pub in_file_is_serve : (own : Option Own) (f g : DaemonFault) → g ≡ in_file own f → IsServeFault f → IsServeFault g
+in_file_is_serve own f g e is = subst IsServeFault (sym e) (at_serves own f is)

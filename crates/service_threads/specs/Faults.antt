@@ -8,7 +8,7 @@ use Rattle.service_files.specs.declared.fault.DaemonFault.{DaemonFault}
 use Rattle.service_files.specs.declared.fault.DaemonFault.TheVariants as fault
 use Rattle.service_files.specs.Faults.{most_text}
 
--- the system refuses, or there is no memory
+-- the system refuses, a secret that is named cannot be had, or there is no memory
 abbrev pub IsSystemFault : DaemonFault → Type 0
 IsSystemFault fault.NoMemory = Unit {0}
 IsSystemFault fault.Clock = Unit {0}
@@ -18,6 +18,7 @@ IsSystemFault fault.Control = Unit {0}
 IsSystemFault fault.Metrics = Unit {0}
 IsSystemFault fault.Journal = Unit {0}
 IsSystemFault fault.Store = Unit {0}
+IsSystemFault fault.Secret = Unit {0}
 IsSystemFault _ = ⊥
 
 -- in a run with this number, with this list of users, if there is one
@@ -42,6 +43,7 @@ IsServeFaultOf text users number fault.Control = IsRead text users number
 IsServeFaultOf text users number fault.Metrics = IsRead text users number
 IsServeFaultOf text users number fault.Journal = IsRead text users number
 IsServeFaultOf text users number fault.Store = IsRead text users number
+IsServeFaultOf text users number fault.Secret = IsRead text users number
 IsServeFaultOf text users number _ = ⊥
 
 -- only a configuration that is read anew has another identity

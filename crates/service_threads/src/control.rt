@@ -25,12 +25,18 @@ impl<'a, R: Wait + Clock + ProxyFiles> Control<'a, R> {
     /// Where it is not taken; then the one before stays.
     fn take_setup(&self) -> Result<(), DaemonFault> {
         let proxy = self.proxy;
-        let text = read_config(self.rt, proxy.transport.alloc, proxy.paths.config.as_str())?;
-        let users = read_users(self.rt, proxy.transport.alloc, proxy.paths.users.as_deref())?;
-        proxy
+        let own = proxy.paths.own;
+        let alloc = proxy.transport.alloc;
+        let text = read_config(self.rt, alloc, proxy.paths.config.as_str(), own)?;
+        let users = read_users(self.rt, alloc, proxy.paths.users.as_deref())?;
+        let taken = proxy
             .transport
             .service
-            .reload(self.rt, text.as_slice(), users.as_deref())
+            .reload(self.rt, text.as_slice(), users.as_deref());
+        match taken {
+            Ok(()) => Ok(()),
+            Err(fault) => Err(fault.in_file(own)),
+        }
     }
 
     /// The counters as they stand now, in the text form of Prometheus.

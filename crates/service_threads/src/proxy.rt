@@ -5,15 +5,18 @@ use service_files::{Configuration, Identity, Options, ProxyFiles, most_calls_her
 use service_transport::ServiceTransport;
 use service_writers::{JournalWriter, WarningWriter};
 use sip_uri::Hop;
+use sip_via::Own;
 use std::alloc::{AllocError, Global};
 
-/// The files of a proxy, beside its journal.
+/// The files of a proxy, beside its journal, and what of its configuration is said elsewhere.
 #[derive(Drop)]
 pub(crate) struct Paths {
     pub(crate) config: String,
     /// The file of the users, if there is one.
     pub(crate) users: Option<String>,
     pub(crate) control: String,
+    /// The address that the proxy receives at, where it is not that of the configuration.
+    pub(crate) own: Option<Own>,
 }
 
 /// How a proxy is started: as these options say, at this millisecond since 1970, with this number of the run for a configuration that has
@@ -49,6 +52,7 @@ fn paths_of(alloc: Global, options: Options<'_>) -> Result<Paths, AllocError> {
         config: String::from_str(alloc, options.config)?,
         users: path_of(alloc, options.users)?,
         control: String::from_str(alloc, options.control)?,
+        own: options.own,
     })
 }
 
@@ -64,6 +68,7 @@ fn terms_of<R: ProxyFiles>(
         identity: Identity::of(configuration.settings.setup()),
         number: start.number,
         records: options.records,
+        route: options.route,
         own_port: options.own_port,
         streams: options.connections.is_some(),
         most_calls: match options.most_calls {
@@ -95,8 +100,7 @@ impl ServiceProxy {
         let options = start.options;
         let terms = terms_of(rt, alloc, start, &configuration);
         let service = Service::new(alloc, alloc, configuration, terms)?;
-        let most = options.most_per_source;
-        let transport = ServiceTransport::new(alloc, service, own, epoch, most)?;
+        let transport = ServiceTransport::new(alloc, service, own, epoch, options)?;
         let journal = JournalWriter::new(alloc, options.journal)?;
         let paths = paths_of(alloc, options)?;
         Ok(ServiceProxy {

@@ -21,12 +21,13 @@ use metrics::{PageSockets, answer_scrapers};
 use proxy_threads::own_of;
 use service_config::ServiceSettings;
 use service_files::{
-    Configuration, DaemonFault, Options, ProxyFiles, check_files, read_config, read_text,
-    read_users,
+    Configuration, DaemonFault, Options, ProxyFiles, check_files, read_config, read_secret,
+    read_text, read_users,
 };
 use service_transport::{BoundSockets, ProxySockets};
 use service_writers::{OpenedStore, ProxyStores, close_opened};
 use sip_uri::Hop;
+use sip_via::Own;
 use sockets::{is_shared, print_listening};
 use std::alloc::Global;
 use std::io::{Eprint, Print};
@@ -260,18 +261,38 @@ fn tell_whom_it_serves<R: Eprint>(rt: &R, settings: &ServiceSettings<Global>) {
     }
 }
 
-/// How a run begins: with these options and this number, at this moment, with a secret of its own.
-fn start_of<'a, R: Clock + RandomSource>(
+/// The secret of a run: that of the file that options name, or 32 random bytes.
+#[tactic(auto, using(crate::proofs::Faults::secret_is_system))]
+fn secret_of<R: ProxyFiles + RandomSource>(
     rt: &R,
+    alloc: Global,
+    options: Options<'_>,
+) -> Result<[u8; 32], DaemonFault>
+    ensures { IfErr result IsSystemFault }
+{
+    match read_secret(rt, alloc, options.secret) {
+        Ok(Some(secret)) => Ok(secret),
+        Ok(None) => {
+            let mut secret = [0u8; 32];
+            if rt.fill_bytes(&mut secret).is_err() {
+                return Err(DaemonFault::Random);
+            }
+            Ok(secret)
+        }
+        Err(fault) => Err(fault),
+    }
+}
+
+/// How a run begins: with these options and this number, at this moment, with the secret of the options, or one of its own.
+fn start_of<'a, R: Clock + ProxyFiles + RandomSource>(
+    rt: &R,
+    alloc: Global,
     options: Options<'a>,
     number: u32,
 ) -> Result<StartOptions<'a>, DaemonFault>
     ensures { IfErr result IsSystemFault }
 {
-    let mut secret = [0u8; 32];
-    if rt.fill_bytes(&mut secret).is_err() {
-        return Err(DaemonFault::Random);
-    }
+    let secret = secret_of(rt, alloc, options)?;
     Ok(StartOptions {
         options,
         number,
@@ -280,11 +301,11 @@ fn start_of<'a, R: Clock + RandomSource>(
     })
 }
 
-/// How a run begins with what a store has: its secret is that of the store, where there is one.
+/// How a run begins with what a store has: its secret is that of the store, where there is one, and no file of a secret is named.
 fn with_secret<'a>(start: StartOptions<'a>, secret: Option<[u8; 32]>) -> StartOptions<'a> {
     match secret {
-        Some(secret) => StartOptions { secret, ..start },
-        None => start,
+        Some(secret) if start.options.secret.is_none() => StartOptions { secret, ..start },
+        _ => start,
     }
 }
 
@@ -347,7 +368,7 @@ fn serve_configuration<
 ) -> Result<(), DaemonFault>
     ensures { IfErr result IsSystemFault }
 {
-    let start = start_of(rt, options, number)?;
+    let start = start_of(rt, alloc, options, number)?;
     tell_whom_it_serves(rt, &configuration.settings);
     let receivers = receivers_of(rt, alloc, &configuration, start.options)?;
     match open_store(rt, alloc, start) {
@@ -357,7 +378,8 @@ fn serve_configuration<
 }
 
 /// Reads a configuration's file and that of its users, and answers whether a proxy would serve by them; where no file of users is named,
-/// whether the configuration alone is well-formed. Where it has no line of an instance, none is missing.
+/// whether the configuration alone is well-formed. Where it has no line of an instance, none is missing, and no line of an address where the
+/// address is said here.
 ///
 /// # Errors
 ///
@@ -368,10 +390,11 @@ pub fn check_config<R: ProxyFiles>(
     alloc: Global,
     config: &str,
     users: Option<&str>,
+    own: Option<Own>,
 ) -> Result<(), DaemonFault>
     ensures { IfErr result IsConfigurationFault }
 {
-    check_files(rt, alloc, config, users)
+    check_files(rt, alloc, config, users, own)
 }
 
 /// Serves as [`serve`] does, by these texts of a configuration and of its users, if there are any; `reload` reads their files. Where a
@@ -441,12 +464,12 @@ fn number_of_run<R: Clock>(rt: &R) -> u32 {
 ///
 /// # Errors
 ///
-/// The configuration's faults as [`check_config`] finds them, and `Users` for a realm without a file of users; `Random` where the system
-/// has no random bytes; `Socket` where the address cannot be bound or a receive failed; `Clock` where the clock cannot be read; `Store`
+/// The configuration's faults as [`check_config`] finds them, and `Users` for a realm without a file of users; `Secret` where the secret that
+/// is named cannot be had; `Random` where the system has no random bytes; `Socket` where the address cannot be bound or a receive failed; `Clock` where the clock cannot be read; `Store`
 /// where the store cannot be used; `Journal` where the journal cannot be opened; `Metrics` where the address for scrapers cannot be bound;
 /// `Control` where the control socket cannot be made, or another proxy has it; `NoMemory` where the allocator refuses or a thread could
 /// not be made. A proxy that is refused has taken nothing of another one.
-#[tactic(auto, using(crate::proofs::Faults::configuration_is_serve, crate::proofs::Faults::text_is_serve))]
+#[tactic(auto, using(crate::proofs::Faults::configuration_is_serve, crate::proofs::Faults::text_is_serve, crate::proofs::Faults::in_file_is_serve))]
 pub fn serve<
     R: Threads
         + Wait
@@ -464,14 +487,18 @@ pub fn serve<
     ensures { IfErr result IsServeFault }
 {
     let number = number_of_run(rt);
-    let text = read_config(rt, alloc, options.config)?;
+    let text = read_config(rt, alloc, options.config, options.own)?;
     let users = read_users(rt, alloc, options.users)?;
-    serve_text(
+    let served = serve_text(
         rt,
         alloc,
         text.as_slice(),
         users.as_deref(),
         number,
         options,
-    )
+    );
+    match served {
+        Ok(()) => Ok(()),
+        Err(fault) => Err(fault.in_file(options.own)),
+    }
 }

@@ -5,6 +5,7 @@ use crate::idle::IdleWorkers;
 use metrics::DatagramCounts;
 use proxy_threads::{CallGroups, GroupClaim};
 use service_admission::SourceLimits;
+use service_config::Net;
 use sip_uri::Hop;
 use sockets::Socket;
 use std::alloc::{AllocError, Global};
@@ -18,6 +19,8 @@ pub(crate) struct Receiving {
     most: Option<u32>,
     /// Who has this lock receives. Under it stands what sources have sent, if there is a limit.
     pub(crate) limits: Mutex<Option<SourceLimits<Global>>>,
+    /// The nets whose addresses may send as many as they like all the same.
+    unlimited: Vec<Net>,
     /// Workers that are idle while another one receives.
     idle: IdleWorkers,
     pub(crate) groups: CallGroups,
@@ -29,17 +32,23 @@ fn source_limits(alloc: Global, most: Option<u32>) -> Option<SourceLimits<Global
 }
 
 impl Receiving {
-    /// No worker receives, and none is idle. A source may send so many datagrams in a second, if there is a limit.
+    /// No worker receives, and none is idle. A source may send so many datagrams in a second, if there is a limit, and it is in none of these nets.
     ///
     /// # Errors
     ///
     /// Only where the allocator refuses.
-    pub(crate) fn new(alloc: Global, most: Option<u32>) -> Result<Receiving, AllocError> {
+    pub(crate) fn new(
+        alloc: Global,
+        most: Option<u32>,
+        unlimited: &[Net],
+    ) -> Result<Receiving, AllocError> {
         let groups = CallGroups::new(alloc)?;
+        let unlimited = Vec::from_slice(alloc, unlimited)?;
         Ok(Receiving {
             alloc,
             most,
             limits: Mutex::new(source_limits(alloc, most)),
+            unlimited,
             idle: IdleWorkers::new(),
             groups,
         })
@@ -49,6 +58,11 @@ impl Receiving {
     /// as the thread that receives those has their counts while it waits.
     pub(crate) fn own_limits(&self) -> Option<SourceLimits<Global>> {
         source_limits(self.alloc, self.most)
+    }
+
+    /// Whether an address may send as many datagrams as it likes, whatever the limit is.
+    pub(crate) fn is_unlimited(&self, addr: [u8; 4]) -> bool {
+        self.unlimited.iter().any(|net| net.has(addr))
     }
 
     /// Whether the group of this number is entered with a datagram; else it is another worker's, or is dropped and counted.

@@ -2,6 +2,7 @@
 use crate::receiving::Receiving;
 use call_table::{Epoch, ThreadClock};
 use proxy_service::Service;
+use service_files::Options;
 use sip_uri::Hop;
 use std::alloc::{AllocError, Global};
 use std::time::Clock;
@@ -19,7 +20,8 @@ pub struct ServiceTransport {
 }
 
 impl ServiceTransport {
-    /// That of a service at this address, whose moments begin there. A source may send so many messages in a second, if there is a limit.
+    /// That of a service at this address, whose moments begin there. Options say how many messages a source may send in a second, if there is a
+    /// limit, and which sources have none.
     ///
     /// # Errors
     ///
@@ -29,11 +31,11 @@ impl ServiceTransport {
         service: Service,
         own: Hop,
         epoch: Epoch,
-        most_per_source: Option<u32>,
+        options: Options<'_>,
     ) -> Result<ServiceTransport, AllocError> {
         Ok(ServiceTransport {
             alloc,
-            receiving: Receiving::new(alloc, most_per_source)?,
+            receiving: Receiving::new(alloc, options.most_per_source, options.unlimited)?,
             service,
             own,
             epoch,

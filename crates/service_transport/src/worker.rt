@@ -127,11 +127,15 @@ impl<'a, R: Wait + ConnectionSockets + Clock> DatagramWorker<'a, R> {
         limits: &mut Option<SourceLimits<Global>>,
         source: Hop,
     ) -> bool {
+        let counts = &self.service.counts().datagrams;
+        if self.receiving.is_unlimited(source.addr) {
+            counts.received.add(1);
+            return true;
+        }
         let now = match limits {
             Some(_) => self.watch.micros(rt) / 1_000,
             None => 0,
         };
-        let counts = &self.service.counts().datagrams;
         admits(counts, limits, source.addr, now)
     }
 

@@ -9,6 +9,7 @@ use call_messages::one_target::{
     ACK_SENT, CALLER, INVITE, INVITE_SENT, NOT_FOUND, OPTIONS, OPTIONS_SENT, TARGET, TRYING,
 };
 use fork_call::{Cause, Setup, Taken};
+use sip_via::Own;
 use std::alloc::Global;
 
 /// An INVITE that says when it was sent.
@@ -179,4 +180,37 @@ fn a_proxy_stays_on_the_path_and_gives_times_back(rt: HostRuntime) {
             what,
         );
     }
+}
+
+/// The INVITE with the address of a front on the path.
+const RECORDED_AS: Sent = Sent {
+    cause: Cause::Request(0),
+    to: TARGET,
+    text: b"INVITE sip:bob@192.0.2.4 SIP/2.0\r\n\
+Via: SIP/2.0/UDP 192.0.2.9:5060;branch=z9hG4bK8c31e71e0ddbf1a0e56f5f0279990857.7.3.0\r\n\
+Record-Route: <sip:192.0.2.1:5070;lr>\r\n\
+v: SIP/2.0/UDP 192.0.2.1:5060;branch=z9hG4bKa;rport=40000;received=192.0.2.1\r\n\
+Max-Forwards: 69\r\n\
+f: <sip:alice@example.com>;tag=1\r\n\
+t: <sip:bob@example.com>\r\n\
+i: c1\r\n\
+CSeq: 1 INVITE\r\n\
+Timestamp: 54.21\r\n\
+l: 0\r\n\
+\r\n",
+};
+
+/// Whether an INVITE goes by a setup whose Record-Route line names a front.
+fn goes_by_front(alloc: Global) -> bool {
+    let Some(setup) = setup_with(alloc, true, true) else {
+        return false;
+    };
+    let setup = setup.recording_as(Own::over_udp([192, 0, 2, 1], 5070));
+    let history = [(0, Turn::Sends(&TRYING_AT)), (0, Turn::Sends(&RECORDED_AS))];
+    goes_by(alloc, &setup, INVITE_AT, &history)
+}
+
+#[test]
+fn a_proxy_stays_on_the_path_by_the_address_of_a_front(rt: HostRuntime) {
+    holds(&rt, goes_by_front(rt.alloc()), "the front's address");
 }
