@@ -197,8 +197,9 @@ impl<A: Allocator> OpenedRequest<A> {
         if !self.opening.large {
             return hop;
         }
+        let addr = hop.addr;
         Hop {
-            addr: hop.addr,
+            addr,
             port: hop.port,
             transport: by_connection(hop.transport),
         }
