@@ -95,6 +95,16 @@ fn takes(alloc: Global, parts: &mut SetupParts) -> bool {
         && adds(alloc, parts, b"bob", b"sip:bob@192.0.2.4") == Ok(false)
 }
 
+/// The URI of a location that is reached over TCP.
+const OVER_TCP: &[u8] = b"sip:bob@192.0.2.4;transport=tcp";
+
+/// Whether parts take a location that is reached over TCP only where there are connections.
+fn connects(alloc: Global, parts: &mut SetupParts) -> bool {
+    let is_refused = adds(alloc, parts, b"bob", OVER_TCP) == Ok(false) && !parts.has_streams();
+    parts.set_streams(true);
+    is_refused && parts.has_streams() && adds(alloc, parts, b"bob", OVER_TCP) == Ok(true)
+}
+
 /// Whether what is no location rings as long as is said.
 fn rings(parts: &mut SetupParts) -> bool {
     let usual = parts.ring() == 181_000;
@@ -109,6 +119,7 @@ fn parts_of_a_setup_are_set_by_lines(rt: HostRuntime) {
         Ok(mut parts) => {
             holds(&rt, rings(&mut parts), "how long it rings");
             holds(&rt, takes(alloc, &mut parts), "a location");
+            holds(&rt, connects(alloc, &mut parts), "a location over TCP");
         }
         Err(_) => holds(&rt, false, "there is memory"),
     }

@@ -21,7 +21,7 @@ use Rattle.sip_uri.proofs.laws.Only.{read_again}
 use Rattle.proxy_config.specs.declared.draft.SetupPhase.{SetupPhase}
 use Rattle.proxy_config.specs.declared.draft.SetupPhase.TheVariants.{AtOwn, AtInstance, AtDomain, AtPrefer, AtDepth, AtLocations}
 use Rattle.proxy_config.specs.declared.dialog_token.DialogToken.{DialogToken}
-use Rattle.proxy_config.specs.Setup.{Way, usual_longest}
+use Rattle.proxy_config.specs.Setup.{IsKeptWith, Way, usual_longest}
 use Rattle.proxy_config.specs.Configuration.{Shown, line_if, location_line, AreRules, IsLocation, IsSetup, Begins}
 use Rattle.proxy_config.specs.inner.Reading.{IsSound, phase_after, in_phase}
 use Rattle.proxy_config.specs.Parts.{as_read, uri_if, may_follow, added, with_location, with_line}
@@ -34,16 +34,16 @@ drafted_lines = texts.drafted_lines drafted_line
 
 -- ---- the lines of a setup may come
 
-passes : (earlier : List Location) (location : Location) → MayFollow false earlier location → may_follow false earlier location ≡ true
-passes earlier location h = and_from _ _ (and_from _ _ h.hop (ap not h.apart)) (lt-ltb _ _ h.few)
+passes : (streams : Bool) (earlier : List Location) (location : Location) → MayFollow streams earlier location → may_follow streams earlier location ≡ true
+passes streams earlier location h = and_from _ _ (and_from _ _ h.hop (ap not h.apart)) (lt-ltb _ _ h.few)
 
-location_added : (earlier : List Location) (location : Location) → MayFollow false earlier location → IsLocation location
-    → with_location earlier location.user location.q (spelling location.uri) usual_longest ≡ Some (earlier ++ location ∷ [])
-location_added earlier location may h =
-    ap (λ (r : Result Uri UriFault). option_and_then (λ uri. added false earlier (as_read location.user location.q usual_longest uri)) (uri_if r)) (read_again location.uri h.uri)
-    ∙ ap (λ (o : Option Hop). added false earlier (record location { hop = o; longest = usual_longest })) (sym h.no_hop)
-    ∙ ap (λ (n : ℕ). added false earlier (record location { longest = n })) (sym h.longest)
-    ∙ ap (λ t. cond t (Some (earlier ++ location ∷ [])) None) (passes earlier location may)
+location_added : (streams : Bool) (earlier : List Location) (location : Location) → MayFollow streams earlier location → IsLocation location
+    → with_location streams earlier location.user location.q (spelling location.uri) usual_longest ≡ Some (earlier ++ location ∷ [])
+location_added streams earlier location may h =
+    ap (λ (r : Result Uri UriFault). option_and_then (λ uri. added streams earlier (as_read location.user location.q usual_longest uri)) (uri_if r)) (read_again location.uri h.uri)
+    ∙ ap (λ (o : Option Hop). added streams earlier (record location { hop = o; longest = usual_longest })) (sym h.no_hop)
+    ∙ ap (λ (n : ℕ). added streams earlier (record location { longest = n })) (sym h.longest)
+    ∙ ap (λ t. cond t (Some (earlier ++ location ∷ [])) None) (passes streams earlier location may)
 
 abbrev TakesLocations : SetupPhase → Type 0
 TakesLocations phase = (user : List ℕ) (q : ℕ) (uri : List ℕ) → phase_after phase (LocationLine user q uri) ≡ Some AtLocations
@@ -51,11 +51,11 @@ TakesLocations phase = (user : List ℕ) (q : ℕ) (uri : List ℕ) → phase_af
 abbrev with_one : Setup → Location → Setup
 with_one setup location = record setup { locations = setup.locations ++ location ∷ [] }
 
-location_drafted : (phase : SetupPhase) (setup : Setup) (location : Location) → TakesLocations phase → MayFollow false setup.locations location → IsLocation location
+location_drafted : (phase : SetupPhase) (setup : Setup) (location : Location) → TakesLocations phase → MayFollow setup.streams setup.locations location → IsLocation location
     → drafted_line (in_phase setup phase) (location_line location) ≡ Some (in_phase (with_one setup location) AtLocations)
 location_drafted phase setup location takes may h =
     ap (option_and_then (λ p. option_map (λ s. in_phase s p) (with_line setup (location_line location)))) (takes location.user location.q (spelling location.uri))
-    ∙ ap (λ (o : Option (List Location)). option_map (λ s. in_phase s AtLocations) (option_map (λ ls. record setup { locations = ls }) o)) (location_added setup.locations location may h)
+    ∙ ap (λ (o : Option (List Location)). option_map (λ s. in_phase s AtLocations) (option_map (λ ls. record setup { locations = ls }) o)) (location_added setup.streams setup.locations location may h)
 
 -- these lines lead to the whole setup
 pub record Reached (draft : Draft) (lines : List Line) (setup : Setup) : Type 0 where
@@ -63,7 +63,7 @@ pub record Reached (draft : Draft) (lines : List Line) (setup : Setup) : Type 0 
   pub due : drafted_lines draft lines ≡ Some (in_phase setup phase)
   pub whole : is_whole phase ≡ true
 
-locations_drafted : (phase : SetupPhase) (setup : Setup) (locations : List Location) → TakesLocations phase → is_whole phase ≡ true → KeepsFrom false setup.locations locations → AllByRecursion IsLocation locations
+locations_drafted : (phase : SetupPhase) (setup : Setup) (locations : List Location) → TakesLocations phase → is_whole phase ≡ true → KeepsFrom setup.streams setup.locations locations → AllByRecursion IsLocation locations
     → Reached (in_phase setup phase) (map location_line locations) (record setup { locations = setup.locations ++ locations })
 locations_drafted phase setup [] takes whole kept all = record {
   phase = phase;
@@ -168,7 +168,7 @@ setup_fits shown s h = (
 record BehindRules (s : Setup) (lines : List Line) (next : Draft) : Type 0 where
   more : List Location
   spelled : map location_line more ≡ lines
-  kept : KeepsFrom false s.locations more
+  kept : KeepsFrom s.streams s.locations more
   right : AllByRecursion IsLocation more
   same : record s { locations = s.locations ++ more } ≡ next.setup
 
@@ -211,7 +211,7 @@ keeps_more streams earlier (l ∷ locations) location kept may = (
 record Stepped (s : Setup) (user : List ℕ) (q : ℕ) (uri : List ℕ) (next : Draft) : Type 0 where
   location : Location
   line : location_line location ≡ LocationLine user q uri
-  may : MayFollow false s.locations location
+  may : MayFollow s.streams s.locations location
   is : IsLocation location
   same : in_phase (with_one s location) AtLocations ≡ next
 
@@ -219,16 +219,16 @@ location_step : (s : Setup) (user : List ℕ) (q : ℕ) (uri : List ℕ) (next :
     → option_map (λ t. in_phase t AtLocations) (with_line s (LocationLine user q uri)) ≡ Some next → Stepped s user q uri next
 location_step s user q uri next h e =
     found_map (λ t. in_phase t AtLocations) (with_line s (LocationLine user q uri)) next (Stepped s user q uri)
-    (λ t at1. found_map (λ ls. record s { locations = ls }) (with_location s.locations user q uri usual_longest) t (λ t. Stepped s user q uri (in_phase t AtLocations))
-    (λ ls at2. found_then (λ u. added false s.locations (as_read user q usual_longest u)) (uri_if (read_uri uri)) ls (Stepped s user q uri (in_phase (record s { locations = ls }) AtLocations))
+    (λ t at1. found_map (λ ls. record s { locations = ls }) (with_location s.streams s.locations user q uri usual_longest) t (λ t. Stepped s user q uri (in_phase t AtLocations))
+    (λ ls at2. found_then (λ u. added s.streams s.locations (as_read user q usual_longest u)) (uri_if (read_uri uri)) ls (Stepped s user q uri (in_phase (record s { locations = ls }) AtLocations))
     (λ u at3 is.
     let location : Location = as_read user q usual_longest u in
-    let g = cond_some (may_follow false s.locations location) (s.locations ++ location ∷ []) ls is in
+    let g = cond_some (may_follow s.streams s.locations location) (s.locations ++ location ∷ []) ls is in
     let f = uri_found uri u at3 in
     record {
       location = location;
       line = ap (λ (t : List ℕ). LocationLine user q t) (sym f.1);
-      may = may_is false s.locations location h.1 g.0;
+      may = may_is s.streams s.locations location h.1 g.0;
       is = record { user = h.0; uri = f.0; no_hop = refl; longest = refl };
       same = ap (λ (xs : List Location). in_phase (record s { locations = xs }) AtLocations) g.1;
     }) at2) at1)
@@ -451,4 +451,5 @@ drafted_next draft next text w e =
 pub drafted_sound : (draft : Draft) → IsDrafted draft → IsSound draft
 drafted_sound draft w whole =
     let f = whole_found w.lines draft w.right w.due whole in
-    record { port = f.is.own.port; domain_is = f.is.domain; locations_keep = f.is.kept }
+    let P : Bool → Type 0 = λ streams. IsKeptWith streams draft.setup.own draft.setup.domain draft.setup.locations in
+    subst P (sym f.is.streams) (record { port = f.is.own.port; domain_is = f.is.domain; locations_keep = f.is.kept })

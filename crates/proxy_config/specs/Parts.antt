@@ -1,5 +1,5 @@
 -- What the lines of a text add to a setup, one after another.
-use Rattle.std.specs.Prelude.{◌≡◌, ◌&&◌, ℕ, not, nat_lt, Bool, true, false, List, [], ◌∷◌, ◌++◌, length, Option, Some, None, Result, Ok, Err, option_and_then, if◌then◌else◌}
+use Rattle.std.specs.Prelude.{◌&&◌, ℕ, not, nat_lt, Bool, false, List, [], ◌∷◌, ◌++◌, length, Option, Some, None, Result, Ok, Err, option_and_then, if◌then◌else◌}
 use Rattle.std.specs.Option.{option_map}
 use Rattle.std.specs.List.{list_any}
 use Rattle.fork_model.specs.Table.{most_targets}
@@ -30,10 +30,10 @@ added streams locations location = if may_follow streams locations location then
 abbrev pub as_read : List ℕ → ℕ → ℕ → Uri → Location
 as_read user q longest uri = record { user = user; q = q; uri = uri; hop = None; longest = longest }
 
--- no line makes one that is reached over TCP
-abbrev pub with_location : List Location → List ℕ → ℕ → List ℕ → ℕ → Option (List Location)
-with_location locations user q text longest =
-    option_and_then (λ uri. added false locations (as_read user q longest uri)) (uri_if (read_uri text))
+-- one that is reached over TCP only where the proxy has connections
+abbrev pub with_location : (streams : Bool) → List Location → List ℕ → ℕ → List ℕ → ℕ → Option (List Location)
+with_location streams locations user q text longest =
+    option_and_then (λ uri. added streams locations (as_read user q longest uri)) (uri_if (read_uri text))
 
 -- what a line adds
 abbrev pub with_line : Setup → Line → Option Setup
@@ -43,7 +43,7 @@ with_line setup (DomainLine host) = Some (record setup { domain = host })
 with_line setup (PreferLine statuses) = Some (record setup { rules = record setup.rules { preferred = statuses } })
 with_line setup (DepthLine depth) = Some (record setup { rules = record setup.rules { depth = depth } })
 with_line setup (LocationLine user q uri) =
-    option_map (λ locations. record setup { locations = locations }) (with_location setup.locations user q uri usual_longest)
+    option_map (λ locations. record setup { locations = locations }) (with_location setup.streams setup.locations user q uri usual_longest)
 
 -- before the first line
 abbrev pub no_setup : Setup

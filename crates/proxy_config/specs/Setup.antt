@@ -158,9 +158,6 @@ pub record IsKeptWith (streams : Bool) (own : Own) (domain : List ℕ) (location
   pub domain_is : is_host domain ≡ true
   pub locations_keep : KeepsRulesWith streams locations
 
-abbrev pub IsKept : Own → List ℕ → List Location → Type 0
-IsKept own domain locations = IsKeptWith false own domain locations
-
 -- the targets of a request to a user: no more than may be tried, none twice, each with an address to send to, at a q of at most one
 pub record AreTargets (streams : Bool) (locations : List Location) : Type 0 where
   pub few : length locations ≤ most_targets

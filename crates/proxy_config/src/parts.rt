@@ -6,7 +6,7 @@ ghost use Rattle.fork_rank.specs.Field.{most_q};
 ghost use Rattle.proxy_config.specs.Line.{IsLine};
 ghost use Rattle.proxy_config.specs.LineView.{line_of};
 ghost use Rattle.proxy_config.specs.Parts.{no_setup, uri_if, with_line, with_location};
-ghost use Rattle.proxy_config.specs.Setup.{IsKept};
+ghost use Rattle.proxy_config.specs.Setup.{IsKeptWith};
 
 use crate::line::SetupLine;
 use crate::listed::ListedLocations;
@@ -43,6 +43,7 @@ pub struct SetupParts<A: Allocator = Global> {
     rules: Rules,
     locations: ListedLocations<A>,
     ring: u64,
+    streams: bool,
     large: bool,
 }
 
@@ -64,7 +65,7 @@ impl<A: Allocator> Model for SetupParts<A> {
       records = false;
       stamps = false;
       reasons = false;
-      streams = false;
+      streams = p.streams;
       large = p.large;
       ways = [];
       realm = None;
@@ -95,6 +96,20 @@ impl<A: Allocator> SetupParts<A> {
         self.ring = longest;
     }
 
+    /// Whether the proxy has connections, so that a location may be reached over TCP (RFC 3261 section 18).
+    pub fn has_streams(&self) -> bool
+        ensures { result ≡ self.now.streams }
+    {
+        self.streams
+    }
+
+    /// Sets whether the proxy has connections, so that a location may be reached over TCP (RFC 3261 section 18).
+    pub fn set_streams(&mut self, streams: bool)
+        ensures { self.new ≡ record self.old { streams = streams } }
+    {
+        self.streams = streams;
+    }
+
     /// Requests that are too large for datagrams go over TCP, where there are connections (RFC 3261 section 18.1.1).
     pub fn set_large(&mut self)
         ensures { self.new ≡ record self.old { large = true } }
@@ -119,12 +134,13 @@ impl<A: Allocator + Clone> SetupParts<A> {
             rules: Rules::usual(),
             locations: ListedLocations::new(alloc)?,
             ring: USUAL_LONGEST,
+            streams: false,
             large: false,
         })
     }
 
     /// Adds the location that a user, a q of at most 1000, the text of a URI and a longest time in milliseconds make, and answers
-    /// whether they make one that may stand here.
+    /// whether they make one that may stand here: one that is reached over TCP only where the proxy has connections.
     ///
     /// # Errors
     ///
@@ -141,14 +157,14 @@ impl<A: Allocator + Clone> SetupParts<A> {
         ensures { IfOk result (λ done.
             (if done then Some self.new else None)
             ≡ option_map (λ locations. record self.old { locations = locations })
-            (with_location self.old.locations user.now q uri.now longest)) }
+            (with_location self.old.streams self.old.locations user.now q uri.now longest)) }
     {
         let Some(uri) = uri_if(alloc, uri)? else {
             return Ok(false);
         };
         let user = user.to_vec(alloc.clone()?)?;
         self.locations
-            .push(alloc, false, Location::new(user, q, uri, longest))
+            .push(alloc, self.streams, Location::new(user, q, uri, longest))
     }
 
     /// Adds what a line says, and answers whether that may stand here. In which order lines come is looked at elsewhere.
@@ -175,7 +191,7 @@ impl<A: Allocator + Clone> SetupParts<A> {
 
     /// The setup that the lines make, where all that a setup has to be is so.
     pub fn into_setup(self) -> Setup<A>
-        requires { IsKept self.own self.domain self.locations }
+        requires { IsKeptWith self.streams self.own self.domain self.locations }
         ensures { result ≡ self }
     {
         Setup {
@@ -190,7 +206,7 @@ impl<A: Allocator + Clone> SetupParts<A> {
             records: false,
             stamps: false,
             reasons: false,
-            streams: false,
+            streams: self.streams,
             large: self.large,
             ways: None,
             realm: None,

@@ -10,7 +10,7 @@ use Rattle.proxy_config.specs.declared.draft.SetupPhase.TheVariants.{AtOwn, AtIn
 use Rattle.proxy_config.specs.Line.{Line, OwnLine, InstanceLine, DomainLine, PreferLine, DepthLine, LocationLine}
 use Rattle.proxy_config.specs.LineReading.{read_line}
 use Rattle.proxy_config.specs.Parts.{no_setup, with_line}
-use Rattle.proxy_config.specs.Setup.{Setup, IsKept}
+use Rattle.proxy_config.specs.Setup.{Setup, IsKeptWith}
 
 -- which line may come in which phase, and the phase behind it
 abbrev pub phase_after : SetupPhase → Line → Option SetupPhase
@@ -57,7 +57,7 @@ finished_draft number draft rest = if is_empty rest && is_whole draft.phase then
 
 -- a whole draft makes a setup
 abbrev pub IsSound : Draft → Type 0
-IsSound draft = is_whole draft.phase ≡ true → IsKept draft.setup.own draft.setup.domain draft.setup.locations
+IsSound draft = is_whole draft.phase ≡ true → IsKeptWith draft.setup.streams draft.setup.own draft.setup.domain draft.setup.locations
 
 -- the lines from this number on, and what stands behind the last LF
 abbrev pub read_from : ℕ → Draft → List (List ℕ) → Result Setup ℕ

@@ -1,7 +1,7 @@
 use Rattle.proxy_config.proofs.Common.{◌≡◌, ◌∙◌, ℕ, Bool, List, [], ◌∷◌, Result, Ok, Err, Draft, Setup, ap, arith, cond, finished_draft, is_whole, length, subst, sym, refl, false, true}
 use Rattle.std.proofs.Common.{eqb}
 use Rattle.std.proofs.lemmas.Bool.{eqb-true, false≢true}
-use Rattle.proxy_config.specs.Setup.{IsKept}
+use Rattle.proxy_config.specs.Setup.{IsKeptWith}
 use Rattle.proxy_config.proofs.draft.SetupDraft.finished.Goals as goal
 use Rattle.proxy_config.proofs.draft.SetupDraft.finished.Goals.{then-not-is_empty-via-then-not-is_empty, then-not-is_empty-via-else-not-is_empty+then-not-is_whole}
 
@@ -23,7 +23,7 @@ pub into_setup-requires : goal.into_setup-requires
 into_setup-requires g c =
     let whole : is_whole c.args.self.phase ≡ true = grind (arith, c.is_whole.ensures, c.if-not-is_whole.false) in
     let same : c.self.inside.parts ≡ c.args.self.setup = λ k. (c.self.view_is k).setup in
-    let P : Setup → Type 0 = λ s. IsKept s.own s.domain s.locations in
+    let P : Setup → Type 0 = λ s. IsKeptWith s.streams s.own s.domain s.locations in
     subst P (sym same) (c.requires whole)
 
 pub returns : goal.returns
