@@ -4,6 +4,7 @@ ghost use Rattle.std.specs.Option.{option_copied, option_map};
 ghost use Rattle.sip_text.specs.Message.{is_line, is_value};
 ghost use Rattle.sip_via.specs.OwnVia.{IsOwn};
 ghost use Rattle.sip_build.specs.Dialogs.{opens_dialog};
+ghost use Rattle.proxy_config.specs.Setup.{route_of};
 ghost use Rattle.fork_call.specs.Opening.{dialog_routes, is_stream, own_route_with, record_route_of, route_end, stream_record_route_of, text_of_token, transport_text, two_routes, with_token};
 
 use proxy_config::{DialogToken, Setup, append_address};
