@@ -148,7 +148,7 @@ fn a_configuration_is_checked(rt: HostRuntime) {
         served == Err(DaemonFault::Line(2)),
         "a malformed configuration is not served",
     );
-    let missing = check_config(&rt, rt.alloc(), FILE, None, None);
+    let missing = check_config(&rt, rt.alloc(), FILE, None, None, false);
     holds(
         &rt,
         missing == Err(DaemonFault::Unreadable),
@@ -156,7 +156,7 @@ fn a_configuration_is_checked(rt: HostRuntime) {
     );
     let written = fs::write(&rt, FILE, CONFIGURATION).is_ok();
     holds(&rt, written, "the configuration is written");
-    let checked = check_config(&rt, rt.alloc(), FILE, None, None);
+    let checked = check_config(&rt, rt.alloc(), FILE, None, None, false);
     holds(&rt, checked.is_ok(), "the configuration is well-formed");
     let _ = fs::remove_file(&rt, FILE);
 }

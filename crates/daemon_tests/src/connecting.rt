@@ -21,7 +21,7 @@ const TELEPHONE: &str = "127.0.0.1:47508";
 const CONTROL: &str = "forkproxyd_test_connecting_control";
 
 const CONFIGURATION: &[u8] =
-    b"own 127.0.0.1 47500\ndomain example.com\nlocation bob 1000 sip:bob@127.0.0.1:47502\n";
+    b"own 127.0.0.1 47500\ndomain example.com\nlocation bob 1000 sip:bob@127.0.0.1:47502\nlocation carol 1000 sip:carol@127.0.0.1:47508;transport=tcp\n";
 
 /// How many connections one address may open here.
 const MOST_OF_SOURCE: u32 = 4;
@@ -56,12 +56,15 @@ const PATIENCE: u64 = 5_000;
 const ASKED: &str =
     "OPTIONS sip:example.com SIP/2.0\r\nVia: SIP/2.0/TCP 127.0.0.1:47501;branch=z9hG4bKoptions\r\nMax-Forwards: 70\r\nFrom: <sip:alice@example.com>;tag=1\r\nTo: <sip:example.com>\r\nCall-ID: options\r\nCSeq: 1 OPTIONS\r\nContent-Length: 0\r\n\r\n";
 
-/// An INVITE for bob that goes by this Route value.
+/// An INVITE without its user, its branch, its Call-ID and its Route line.
 const INVITED: (&str, &str, &str) = (
-    "INVITE sip:bob@example.com SIP/2.0\r\nVia: SIP/2.0/TCP 127.0.0.1:47501;branch=z9hG4bK",
-    "\r\nMax-Forwards: 70\r\nFrom: <sip:alice@example.com>;tag=1\r\nTo: <sip:bob@example.com>\r\nCSeq: 1 INVITE\r\nContact: <sip:alice@127.0.0.1:47501;transport=tcp>\r\nRoute: <sip:127.0.0.1:",
-    ";transport=tcp;lr>\r\nContent-Length: 0\r\n\r\n",
+    "@example.com SIP/2.0\r\nVia: SIP/2.0/TCP 127.0.0.1:47501;branch=z9hG4bK",
+    "\r\nMax-Forwards: 70\r\nFrom: <sip:alice@example.com>;tag=1\r\nTo: <sip:bob@example.com>\r\nCSeq: 1 INVITE\r\nContact: <sip:alice@127.0.0.1:47501;transport=tcp>\r\n",
+    "Content-Length: 0\r\n\r\n",
 );
+
+/// By a connection to a telephone that is not there.
+const ROUTE: &str = "Route: <sip:127.0.0.1:47509;transport=tcp;lr>\r\n";
 
 /// A connection to the proxy, or to a telephone, whose reads wait a tenth of a second.
 fn connected<R: Net<Stream = TcpStream>>(rt: &R) -> io::Result<TcpStream> {
@@ -152,10 +155,12 @@ fn closes_one_more<R: Net<Stream = TcpStream> + Clock>(rt: &R, alloc: Global) ->
     closes(rt, &mut more)
 }
 
-/// Sends an INVITE for bob by a connection, which is to go by one to this port.
-fn invites(alloc: Global, stream: &mut TcpStream, call: &str, port: &str) -> io::Result<()> {
+/// Sends an INVITE for a user by a connection, with this Route line, if it is one.
+fn invites(alloc: Global, stream: &mut TcpStream, user: &str, route: &str) -> io::Result<()> {
     let (front, middle, end) = INVITED;
-    let text = format!(in alloc; "{front}{call}\r\nCall-ID: {call}{middle}{port}{end}")?;
+    let text = format!(in alloc;
+        "INVITE sip:{user}{front}{user}\r\nCall-ID: {user}{middle}{route}{end}"
+    )?;
     stream.write_all(text.as_bytes())
 }
 
@@ -165,19 +170,19 @@ fn tells_unreachable<R: Net<Stream = TcpStream> + Clock>(
     alloc: Global,
 ) -> io::Result<bool> {
     let mut stream = connected(rt)?;
-    invites(alloc, &mut stream, "gone", "47509")?;
+    invites(alloc, &mut stream, "bob", ROUTE)?;
     let answer = read_until(rt, alloc, &mut stream, "SIP/2.0 500 ")?;
     Ok(has(answer.as_slice(), b"SIP/2.0 500 "))
 }
 
-/// Whether a telephone is called by a connection, its failure goes up, and it gets its ACK.
+/// Whether a user whose location says so is called by a connection, the failure of the telephone goes up, and it gets its ACK.
 fn calls_telephone<R: Net<Stream = TcpStream, Listener = TcpListener> + Clock>(
     rt: &R,
     alloc: Global,
 ) -> io::Result<bool> {
     let listener = TcpListener::bind(rt, TELEPHONE)?;
     let mut stream = connected(rt)?;
-    invites(alloc, &mut stream, "rings", "47508")?;
+    invites(alloc, &mut stream, "carol", "")?;
     let (mut telephone, _) = listener.accept()?;
     telephone.set_read_timeout(Some(Duration::from_millis(100)))?;
     let request = read_until(rt, alloc, &mut telephone, "\r\n\r\n")?;

@@ -103,7 +103,7 @@ pub fn service_over<A: Allocator + Copy>(
     text: &[u8],
     served: Served,
 ) -> Option<Service<A>> {
-    let configuration = read_text(alloc, text, None, NUMBER).ok()?;
+    let configuration = read_text(alloc, text, None, NUMBER, false).ok()?;
     let terms = RunSettings {
         identity: Identity::of(configuration.settings.setup()),
         number: NUMBER,

@@ -16,7 +16,7 @@ pub fn settings_of(alloc: Global) -> Option<ServiceSettings<Global>> {
 
 /// Those that a text spells, of a service that stays on the path of dialogs.
 pub fn settings_from<A: Allocator + Copy>(alloc: A, text: &[u8]) -> Option<ServiceSettings<A>> {
-    match ServiceSettings::read(alloc, text, 7) {
+    match ServiceSettings::read(alloc, text, 7, false) {
         Ok(settings) => Some(settings.for_a_service().recording()),
         Err(_) => None,
     }

@@ -426,7 +426,8 @@ fn served_at<
 >(handle: &R, rt: &HostRuntime, matches: &ArgMatches<'_>, addresses: &Addresses) -> u8 {
     if let Some(config) = matches.get_str("check-config") {
         let users = matches.get_str("users");
-        let checked = check_config(rt, rt.alloc(), config, users, addresses.own);
+        let streams = !matches.get_flag("no-tcp");
+        let checked = check_config(rt, rt.alloc(), config, users, addresses.own, streams);
         return ended(rt, checked);
     }
     let (Some(config), Some(control)) = (matches.get_str("config"), matches.get_str("control"))

@@ -24,17 +24,13 @@ by_port_if own_port settings = if own_port then record settings { setup = record
 abbrev pub recording_if : (records : Bool) → Settings → Settings
 recording_if records settings = if records then record settings { setup = record settings.setup { records = true } } else settings
 
--- a hop may be over a connection
-abbrev pub streams_if : (streams : Bool) → Settings → Settings
-streams_if streams settings = if streams then record settings { setup = record settings.setup { streams = true } } else settings
-
 -- that names this address
 abbrev pub recording_as_if : (route : Option Own) → Settings → Settings
 recording_as_if None settings = settings
 recording_as_if (Some route) settings = record settings { setup = record settings.setup { route = Some route } }
 
 abbrev pub by_terms : RunSettings → Settings → Settings
-by_terms terms settings = streams_if terms.streams (recording_as_if terms.route (recording_if terms.records (by_port_if terms.own_port (of_service settings))))
+by_terms terms settings = recording_as_if terms.route (recording_if terms.records (by_port_if terms.own_port (of_service settings)))
 
 -- and, where there is a realm, as of_own_realm says
 abbrev pub service_settings : RunSettings → Settings → Settings
@@ -45,10 +41,10 @@ pub record IsOf (identity : Identity) (setup : Setup) : Type 0 where
   pub own : setup.own ≡ identity.own
   pub instance : setup.instance ≡ identity.instance
 
--- the texts, of a configuration and of its users, if there are any, spell it in a run with this number, and it is the service's
+-- the texts, of a configuration and of its users, if there are any, spell it in a run with this number, with connections or without, and it is the service's
 pub record IsServiceConfigured {A : Type 0} (terms : RunSettings) (text : List ℕ) (users : Option (List ℕ)) (configuration : Configuration A) : Type 0 where
   pub read : Configuration A
-  pub spelled : IsConfigured text users terms.number read
+  pub spelled : IsConfigured text users terms.number terms.streams read
   pub is_of : IsOf terms.identity read.settings.setup
   pub settings_are : configuration.settings ≡ service_settings terms read.settings
   pub users_are : configuration.users ≡ read.users
@@ -56,9 +52,9 @@ pub record IsServiceConfigured {A : Type 0} (terms : RunSettings) (text : List �
 -- they spell another service's
 pub record IsOthers (terms : RunSettings) (text : List ℕ) : Type 0 where
   pub settings : Settings
-  pub spelled : IsServiceConfiguration terms.number text settings
+  pub spelled : IsServiceConfiguration terms.number terms.streams text settings
   pub is_other : IsOf terms.identity settings.setup → ⊥
 
 abbrev pub IsReloadFault : RunSettings → List ℕ → Option (List ℕ) → DaemonFault → Type 0
 IsReloadFault terms text users fault.Identity = IsOthers terms text
-IsReloadFault terms text users other = IsFaultOf text users terms.number other
+IsReloadFault terms text users other = IsFaultOf text users terms.number terms.streams other

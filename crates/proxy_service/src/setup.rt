@@ -1,7 +1,7 @@
 //! The configuration of a service.
 ghost use Rattle.std.specs.Prelude.{◌≡◌, ◌↔◌, IfErr, IfOk, IsTrue};
 ghost use Rattle.std.specs.Option.{option_copied};
-ghost use Rattle.proxy_service.specs.Setups.{IsOf, IsReloadFault, IsServiceConfigured, by_port_if, by_terms, recording_as_if, recording_if, service_settings, streams_if};
+ghost use Rattle.proxy_service.specs.Setups.{IsOf, IsReloadFault, IsServiceConfigured, by_port_if, by_terms, recording_as_if, recording_if, service_settings};
 
 use crate::terms::RunSettings;
 use fork_call::Setup;
@@ -32,17 +32,6 @@ fn recording_if<A: Allocator>(settings: ServiceSettings<A>, records: bool) -> Se
     }
 }
 
-/// The settings with hops over connections, if there are any.
-fn streams_if<A: Allocator>(settings: ServiceSettings<A>, streams: bool) -> ServiceSettings<A>
-    ensures { result ≡ streams_if streams settings }
-{
-    if streams {
-        settings.with_streams()
-    } else {
-        settings
-    }
-}
-
 /// The settings with a Record-Route line that names this address, if there is another one than the own.
 fn recording_as_if<A: Allocator>(
     settings: ServiceSettings<A>,
@@ -57,15 +46,14 @@ fn recording_as_if<A: Allocator>(
 }
 
 /// Settings as a service goes by them, but for the realm: all Route values at the front of a request that lead to the proxy are taken away;
-/// a 100 has the Timestamp of its request, and a CANCEL says why; the own address counts as the domain with the own port alone, a request
-/// that opens a dialog has a Record-Route line, which names the address of the terms, and requests may go by connections, where the terms say so.
+/// a 100 has the Timestamp of its request, and a CANCEL says why; the own address counts as the domain with the own port alone, and a request
+/// that opens a dialog has a Record-Route line, which names the address of the terms, where the terms say so.
 fn by_terms<A: Allocator>(settings: ServiceSettings<A>, terms: &RunSettings) -> ServiceSettings<A>
     ensures { result ≡ by_terms terms.now settings }
 {
     let settings = settings.for_a_service().stamping().giving_reasons();
     let settings = recording_if(by_port_if(settings, terms.own_port), terms.records);
-    let settings = recording_as_if(settings, terms.route);
-    streams_if(settings, terms.streams)
+    recording_as_if(settings, terms.route)
 }
 
 /// A configuration as a service goes by it. Where there is a realm, a request that opens a dialog has a Record-Route line, too, and
@@ -108,7 +96,7 @@ pub(crate) fn configuration_of<A: Allocator + Copy>(
     ensures ok { IfOk result (IsServiceConfigured terms.now text.now (option_copied users.entry)) }
     ensures fault { IfErr result (IsReloadFault terms.now text.now (option_copied users.entry)) }
 {
-    let configuration = read_text(alloc, text, users, terms.number)?;
+    let configuration = read_text(alloc, text, users, terms.number, terms.streams)?;
     if !is_of(configuration.settings.setup(), terms.identity) {
         return Err(DaemonFault::Identity);
     }

@@ -102,7 +102,7 @@ fn begun(
     has_store: bool,
     route: Option<Own>,
 ) -> Option<Service> {
-    let configuration = read_text(alloc, text, users, 1).ok()?;
+    let configuration = read_text(alloc, text, users, 1, false).ok()?;
     let terms = RunSettings {
         identity: Identity::of(configuration.settings.setup()),
         number: 1,

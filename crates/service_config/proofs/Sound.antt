@@ -9,7 +9,7 @@ use Rattle.sip_uri.specs.Uri.{Uri}
 use Rattle.proxy_config.proofs.laws.Lines.{keeps_more, may_is}
 use Rattle.proxy_config.specs.Line as setup
 use Rattle.proxy_config.specs.Parts as parts
-use Rattle.proxy_config.specs.Setup.{IsKept, KeepsRules, Location, Setup}
+use Rattle.proxy_config.specs.Setup.{IsKeptWith, KeepsRulesWith, Location, Setup}
 use Rattle.service_config.specs.Configuration.{Draft, no_draft, of_kind, with_draft}
 use Rattle.service_config.specs.Settings.{Gateway, Settings, in_settings, longest_of, with_gateway, with_line}
 use Rattle.service_config.specs.declared.kind.LineKind.{LineKind}
@@ -40,7 +40,7 @@ passed (Some earlier) k h behind other =
 record Same (s t : Setup) : Type 0 where
   port : s.own.port ≡ t.own.port
   domain : s.domain ≡ t.domain
-  locations : KeepsRules s.locations → KeepsRules t.locations
+  locations : KeepsRulesWith s.streams s.locations → KeepsRulesWith t.streams t.locations
 
 -- a line behind the domain
 behind_domain : (draft : Draft) (k : LineKind) (t : Settings) → IsSound draft → may_follow draft.last k ≡ true → nat_le (place_of k) 2 ≡ false → (place_of k == 0) ≡ false
@@ -56,14 +56,14 @@ all_same s = record { port = refl; domain = refl; locations = λ kept. kept }
 
 -- ---- locations
 
-location_keeps : (locations : List Location) (user : List ℕ) (q : ℕ) (text : List ℕ) (longest : ℕ) (more : List Location) → q ≤ most_q
-    → parts.with_location locations user q text longest ≡ Some more → KeepsRules locations → KeepsRules more
-location_keeps locations user q text longest more within e kept =
-    found_then (λ uri. parts.added false locations (parts.as_read user q longest uri)) (parts.uri_if (read_uri text)) more (KeepsRules more)
+location_keeps : (streams : Bool) (locations : List Location) (user : List ℕ) (q : ℕ) (text : List ℕ) (longest : ℕ) (more : List Location) → q ≤ most_q
+    → parts.with_location streams locations user q text longest ≡ Some more → KeepsRulesWith streams locations → KeepsRulesWith streams more
+location_keeps streams locations user q text longest more within e kept =
+    found_then (λ uri. parts.added streams locations (parts.as_read user q longest uri)) (parts.uri_if (read_uri text)) more (KeepsRulesWith streams more)
     (λ uri at is.
     let location : Location = parts.as_read user q longest uri in
-    let g = cond_some (parts.may_follow false locations location) (locations ++ location ∷ []) more is in
-    subst (λ (ls : List Location). KeepsRules ls) g.1 (keeps_more false [] locations location kept (may_is false locations location within g.0)))
+    let g = cond_some (parts.may_follow streams locations location) (locations ++ location ∷ []) more is in
+    subst (λ (ls : List Location). KeepsRulesWith streams ls) g.1 (keeps_more streams [] locations location kept (may_is streams locations location within g.0)))
     e
 
 -- ---- each line
@@ -137,7 +137,7 @@ sound_next draft next (TrustLine net) h p e =
 sound_next draft next (GatewayLine q uri) h p e =
     kind_sound draft next kind.Gateway (GatewayLine q uri)
     (λ t follows at.
-    found_map (λ gateways. record draft.settings { gateways = gateways }) (with_gateway draft.settings.gateways q uri) t (λ u. IsSound (of_kind kind.Gateway u))
+    found_map (λ gateways. record draft.settings { gateways = gateways }) (with_gateway draft.settings.setup.streams draft.settings.gateways q uri) t (λ u. IsSound (of_kind kind.Gateway u))
     (λ gateways made. behind_domain draft kind.Gateway (record draft.settings { gateways = gateways }) h follows refl refl (all_same draft.settings.setup)) at)
     _ refl e
 sound_next draft next (LocationLine user q uri seconds) h p e =
@@ -145,20 +145,20 @@ sound_next draft next (LocationLine user q uri seconds) h p e =
     let longest = longest_of s.setup.ring seconds in
     kind_sound draft next kind.Location (LocationLine user q uri seconds)
     (λ t follows at.
-    found_map (λ made. record s { setup = made }) (option_map (λ locations. record s.setup { locations = locations }) (parts.with_location s.setup.locations user q uri longest)) t
+    found_map (λ made. record s { setup = made }) (option_map (λ locations. record s.setup { locations = locations }) (parts.with_location s.setup.streams s.setup.locations user q uri longest)) t
     (λ u. IsSound (of_kind kind.Location u))
     (λ made at2.
     behind_domain draft kind.Location (record s { setup = made }) h follows refl refl
-    (found_map (λ locations. record s.setup { locations = locations }) (parts.with_location s.setup.locations user q uri longest) made (λ (m : Setup). Same s.setup m)
-    (λ locations at3. record { port = refl; domain = refl; locations = λ kept. location_keeps s.setup.locations user q uri longest locations p.q_within at3 kept })
+    (found_map (λ locations. record s.setup { locations = locations }) (parts.with_location s.setup.streams s.setup.locations user q uri longest) made (λ (m : Setup). Same s.setup m)
+    (λ locations at3. record { port = refl; domain = refl; locations = λ kept. location_keeps s.setup.streams s.setup.locations user q uri longest locations p.q_within at3 kept })
     at2)) at)
     _ refl e
 sound_next draft next (CommentLine text) h p e = subst IsSound (same_Some _ _ e) h
 
 -- ---- from the first line on
 
-pub none_sound : (number : ℕ) → IsSound (no_draft number)
-none_sound number = record { port = λ w. absurd cc; domain = λ w. absurd cc; locations = tt }
+pub none_sound : (number : ℕ) (streams : Bool) → IsSound (no_draft number streams)
+none_sound number streams = record { port = λ w. absurd cc; domain = λ w. absurd cc; locations = tt }
 
 pub text_sound : (draft next : Draft) (text : List ℕ) → IsSound draft → with_text draft text ≡ Some next → IsSound next
 text_sound draft next text h e =
@@ -166,7 +166,7 @@ text_sound draft next text h e =
     (λ line at is. sound_next draft next line h (line_found text line at).1.parts is) e
 
 -- so a whole draft makes a setup
-pub kept : (draft : Draft) → IsSound draft → is_whole draft.last ≡ true → IsKept draft.settings.setup.own draft.settings.setup.domain draft.settings.setup.locations
+pub kept : (draft : Draft) → IsSound draft → is_whole draft.last ≡ true → IsKeptWith draft.settings.setup.streams draft.settings.setup.own draft.settings.setup.domain draft.settings.setup.locations
 kept draft h whole = record { port = h.port (some draft.last whole); domain_is = h.domain whole; locations_keep = h.locations }
   where
     some : (last : Option LineKind) → is_whole last ≡ true → is_some last ≡ true

@@ -48,11 +48,11 @@ reader = record {
 
 -- ---- what is spelled is read
 
-configuration_read : (number : ℕ) (text : List ℕ) (s : Settings) → IsServiceConfiguration number text s → read_settings number text ≡ Ok s
+configuration_read : (number : ℕ) (streams : Bool) (text : List ℕ) (s : Settings) → IsServiceConfiguration number streams text s → read_settings number streams text ≡ Ok s
 unfolding read_settings
-configuration_read number text s h =
-    ap (λ (t : List ℕ). read_from 1 (no_draft number) (slice_split (is 10) t)) (h.spelled ∙ sym (append-nil (text_of h.lines)))
-    ∙ read_lines reader 1 (no_draft number) h.lines [] h.draft h.are.each h.are.leads
+configuration_read number streams text s h =
+    ap (λ (t : List ℕ). read_from 1 (no_draft number streams) (slice_split (is 10) t)) (h.spelled ∙ sym (append-nil (text_of h.lines)))
+    ∙ read_lines reader 1 (no_draft number streams) h.lines [] h.draft h.are.each h.are.leads
     ∙ ap (λ (t : Bool). cond {A = Result Settings ℕ} t (Ok h.draft.settings) (Err (1 + length h.lines))) h.whole
     ∙ ap found_as h.says
 
@@ -62,10 +62,10 @@ found_end : (number : ℕ) (draft : Draft) (s : Settings) (b : Bool) → is_whol
 found_end number draft s true whole e = (whole, ok_is e)
 found_end number draft s false whole e = absurd cc
 
-configuration_found : (number : ℕ) (text : List ℕ) (s : Settings) → read_settings number text ≡ Ok s → IsServiceConfiguration number text s
+configuration_found : (number : ℕ) (streams : Bool) (text : List ℕ) (s : Settings) → read_settings number streams text ≡ Ok s → IsServiceConfiguration number streams text s
 unfolding read_settings
-configuration_found number text s e =
-    let f = found reader 1 (no_draft number) (slice_split (is 10) text) s e in
+configuration_found number streams text s e =
+    let f = found reader 1 (no_draft number streams) (slice_split (is 10) text) s e in
     let end = found_end f.number f.next s (is_whole f.next.last) refl f.end in
     record {
       lines = f.lines;
@@ -78,11 +78,11 @@ configuration_found number text s e =
 
 -- ---- what is refused
 
-malformed_found : (number : ℕ) (text : List ℕ) (n : ℕ) → read_settings number text ≡ Err n → IsMalformedAt number text n
+malformed_found : (number : ℕ) (streams : Bool) (text : List ℕ) (n : ℕ) → read_settings number streams text ≡ Err n → IsMalformedAt number streams text n
 unfolding read_settings
-malformed_found number text n e =
+malformed_found number streams text n e =
     let some : 0 < length (slice_split (is 10) text) = omega (arith, length-slice_split (is 10) text) in
-    let h = malformed reader 1 (no_draft number) (slice_split (is 10) text) n some (pieces_lack 10 text) e in
+    let h = malformed reader 1 (no_draft number streams) (slice_split (is 10) text) n some (pieces_lack 10 text) e in
     record {
       lines = h.lines;
       draft = h.end;
@@ -91,21 +91,21 @@ malformed_found number text n e =
       are = record { each = h.right; leads = h.due };
       spelled = sym (join_with_byte-slice_split 10 text) ∙ h.whole;
       wrong = λ line more is at. h.none line more is at;
-      partial = λ s is. ok_err (sym (configuration_read number text s is) ∙ e);
+      partial = λ s is. ok_err (sym (configuration_read number streams text s is) ∙ e);
     }
 
 -- ---- so what a call gives says which text it was
 
-pub gives_found : (number : ℕ) (text : List ℕ) (r : Result Settings SetupFault) → GivesSettings (read_settings number text) r → IfOk r (IsServiceConfiguration number text)
-gives_found number text (Ok s) h = configuration_found number text s h
-gives_found number text (Err f) h = tt
+pub gives_found : (number : ℕ) (streams : Bool) (text : List ℕ) (r : Result Settings SetupFault) → GivesSettings (read_settings number streams text) r → IfOk r (IsServiceConfiguration number streams text)
+gives_found number streams text (Ok s) h = configuration_found number streams text s h
+gives_found number streams text (Err f) h = tt
 
-pub gives_only : (number : ℕ) (text : List ℕ) (r : Result Settings SetupFault) → GivesSettings (read_settings number text) r → (s : Settings) → IsServiceConfiguration number text s → GivesSettings (Ok s) r
-gives_only number text r h s is =
+pub gives_only : (number : ℕ) (streams : Bool) (text : List ℕ) (r : Result Settings SetupFault) → GivesSettings (read_settings number streams text) r → (s : Settings) → IsServiceConfiguration number streams text s → GivesSettings (Ok s) r
+gives_only number streams text r h s is =
     let P : Result Settings ℕ → Type 0 = λ read. GivesSettings read r in
-    subst P (configuration_read number text s is) h
+    subst P (configuration_read number streams text s is) h
 
-pub gives_fault : (number : ℕ) (text : List ℕ) (r : Result Settings SetupFault) → GivesSettings (read_settings number text) r → IfErr r (IsFaultOf number text)
-gives_fault number text (Ok s) h = tt
-gives_fault number text (Err (fault.Line n)) h = malformed_found number text n h
-gives_fault number text (Err fault.NoMemory) h = tt
+pub gives_fault : (number : ℕ) (streams : Bool) (text : List ℕ) (r : Result Settings SetupFault) → GivesSettings (read_settings number streams text) r → IfErr r (IsFaultOf number streams text)
+gives_fault number streams text (Ok s) h = tt
+gives_fault number streams text (Err (fault.Line n)) h = malformed_found number streams text n h
+gives_fault number streams text (Err fault.NoMemory) h = tt

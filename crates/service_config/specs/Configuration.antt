@@ -9,7 +9,7 @@
 --     trust 192.0.2.0/24
 --     gateway 1000 sip:192.0.2.20
 --     location bob 1000 sip:bob@192.0.2.4 15
-use Rattle.std.specs.Prelude.{◌≡◌, ℕ, suc, true, List, [], ◌∷◌, ◌++◌, length, Option, Some, None, if◌then◌else◌}
+use Rattle.std.specs.Prelude.{◌≡◌, ℕ, suc, Bool, true, List, [], ◌∷◌, ◌++◌, length, Option, Some, None, if◌then◌else◌}
 use Rattle.std.specs.List.{AllByRecursion}
 use Rattle.std.specs.Option.{option_map}
 use Rattle.fork_rank.specs.LineByLine.{drafted_lines, lines_text}
@@ -24,9 +24,9 @@ pub record Draft : Type 0 where
   pub last : Option LineKind
   pub settings : Settings
 
--- before the first line, for a run with this number
-abbrev pub no_draft : ℕ → Draft
-no_draft number = record { last = None; settings = no_settings number }
+-- before the first line, for a run with this number, of a proxy that has connections or none
+abbrev pub no_draft : ℕ → (streams : Bool) → Draft
+no_draft number streams = record { last = None; settings = no_settings number streams }
 
 abbrev pub of_kind : LineKind → Settings → Draft
 of_kind kind settings = record { last = Some kind; settings = settings }
@@ -43,27 +43,27 @@ abbrev pub text_of : List Line → List ℕ
 text_of lines = lines_text line_text lines
 
 -- these lines, each of which may come, say this
-pub record AreLines (number : ℕ) (lines : List Line) (draft : Draft) : Type 0 where
+pub record AreLines (number : ℕ) (streams : Bool) (lines : List Line) (draft : Draft) : Type 0 where
   pub each : AllByRecursion IsLine lines
-  pub leads : drafted_lines with_draft (no_draft number) lines ≡ Some draft
+  pub leads : drafted_lines with_draft (no_draft number streams) lines ≡ Some draft
 
--- the text sets a service up so, in a run with this number, which is its instance where no line says one
-pub record IsServiceConfiguration (number : ℕ) (text : List ℕ) (settings : Settings) : Type 0 where
+-- the text sets a service up so, in a run with this number, which is its instance where no line says one, and whose proxy has connections or none
+pub record IsServiceConfiguration (number : ℕ) (streams : Bool) (text : List ℕ) (settings : Settings) : Type 0 where
   pub lines : List Line
   pub draft : Draft
-  pub are : AreLines number lines draft
+  pub are : AreLines number streams lines draft
   pub whole : is_whole draft.last ≡ true
   pub says : draft.settings ≡ settings
   pub spelled : text ≡ text_of lines
 
 -- line n is the first that is malformed or missing: those before it may come, the one that stands there may not follow them, and
 -- the text is no whole one
-pub record IsMalformedAt (number : ℕ) (text : List ℕ) (n : ℕ) : Type 0 where
+pub record IsMalformedAt (number : ℕ) (streams : Bool) (text : List ℕ) (n : ℕ) : Type 0 where
   pub lines : List Line
   pub draft : Draft
   pub rest : List ℕ
   pub counted : n ≡ suc (length lines)
-  pub are : AreLines number lines draft
+  pub are : AreLines number streams lines draft
   pub spelled : text ≡ text_of lines ++ rest
   pub wrong : (line : Line) (more : List ℕ) → IsLine line → rest ≡ ended (line_text line) ++ more → with_draft draft line ≡ None
-  pub partial : (settings : Settings) → IsServiceConfiguration number text settings → ⊥
+  pub partial : (settings : Settings) → IsServiceConfiguration number streams text settings → ⊥

@@ -74,10 +74,10 @@ is_trusted settings addr = is_inside settings addr || is_host settings.setup.loc
 
 -- ---- what a line adds
 
--- before the first line, for a run with this number
-abbrev pub no_settings : ℕ → Settings
-no_settings number = record {
-  setup = record parts.no_setup { instance = number };
+-- before the first line, for a run with this number, of a proxy that has connections or none
+abbrev pub no_settings : ℕ → (streams : Bool) → Settings
+no_settings number streams = record {
+  setup = record parts.no_setup { instance = number; streams = streams };
   realm = None;
   expirations = record { least = 60; usual = 3600; most = 86400 };
   strangers = false;
@@ -96,21 +96,22 @@ most_gateways = 16
 abbrev pub is_same_hop : Hop → Gateway → Bool
 is_same_hop hop gateway = address_number gateway.hop.addr == address_number hop.addr && gateway.hop.port == hop.port
 
--- a URI with a hop over UDP, and without a user
-abbrev pub gateway_at : ℕ → Uri → Option Hop → Option Gateway
-gateway_at q uri None = None
-gateway_at q uri (Some hop) = if is_reached false hop.transport && not (is_some uri.user) then Some (record { q = q; uri = uri; hop = hop }) else None
+-- a URI with a hop that requests can go by, over TCP only where the proxy has connections, and without a user
+abbrev pub gateway_at : (streams : Bool) → ℕ → Uri → Option Hop → Option Gateway
+gateway_at streams q uri None = None
+gateway_at streams q uri (Some hop) =
+    if is_reached streams hop.transport && not (is_some uri.user) then Some (record { q = q; uri = uri; hop = hop }) else None
 
 -- where it is none too many, and no other has its hop
 abbrev pub gateway_added : List Gateway → Gateway → Option (List Gateway)
 gateway_added gateways gateway =
     if nat_lt (length gateways) most_gateways && not (list_any (is_same_hop gateway.hop) gateways) then Some (gateways ++ gateway ∷ []) else None
 
-abbrev pub with_uri : List Gateway → ℕ → Uri → Option (List Gateway)
-with_uri gateways q uri = option_and_then (gateway_added gateways) (gateway_at q uri (hop_of uri))
+abbrev pub with_uri : (streams : Bool) → List Gateway → ℕ → Uri → Option (List Gateway)
+with_uri streams gateways q uri = option_and_then (gateway_added gateways) (gateway_at streams q uri (hop_of uri))
 
-abbrev pub with_gateway : List Gateway → ℕ → List ℕ → Option (List Gateway)
-with_gateway gateways q text = option_and_then (with_uri gateways q) (parts.uri_if (read_uri text))
+abbrev pub with_gateway : (streams : Bool) → List Gateway → ℕ → List ℕ → Option (List Gateway)
+with_gateway streams gateways q text = option_and_then (with_uri streams gateways q) (parts.uri_if (read_uri text))
 
 -- in milliseconds
 abbrev pub longest_of : ℕ → Option ℕ → ℕ
@@ -123,7 +124,7 @@ in_settings settings made = option_map (λ setup. record settings { setup = setu
 abbrev pub with_location : Settings → List ℕ → ℕ → List ℕ → Option ℕ → Option Settings
 with_location settings user q text seconds =
     in_settings settings (option_map (λ locations. record settings.setup { locations = locations })
-    (parts.with_location settings.setup.locations user q text (longest_of settings.setup.ring seconds)))
+    (parts.with_location settings.setup.streams settings.setup.locations user q text (longest_of settings.setup.ring seconds)))
 
 -- what a line adds, where that may stand behind what the lines before it said
 abbrev pub with_line : Settings → Line → Option Settings
@@ -134,7 +135,7 @@ with_line settings (RealmLine realm algorithms) = Some (record settings { realm 
 with_line settings (ExpiresLine times) = Some (record settings { expirations = times })
 with_line settings StrangersLine = Some (record settings { strangers = true })
 with_line settings (TrustLine net) = Some (record settings { nets = settings.nets ++ net ∷ [] })
-with_line settings (GatewayLine q uri) = option_map (λ gateways. record settings { gateways = gateways }) (with_gateway settings.gateways q uri)
+with_line settings (GatewayLine q uri) = option_map (λ gateways. record settings { gateways = gateways }) (with_gateway settings.setup.streams settings.gateways q uri)
 with_line settings (LocationLine user q uri seconds) = with_location settings user q uri seconds
 with_line settings (CommentLine text) = Some settings
 

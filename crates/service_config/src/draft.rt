@@ -4,7 +4,7 @@ ghost use Rattle.sip_lex.specs.Cut.{Lacks, cut, is};
 ghost use Rattle.fork_rank.specs.Field.{most_q};
 ghost use Rattle.proxy_config.specs.Line.{is_user};
 ghost use Rattle.proxy_config.specs.LineReading as setup_reading;
-ghost use Rattle.proxy_config.specs.Setup.{IsKept};
+ghost use Rattle.proxy_config.specs.Setup.{IsKeptWith};
 ghost use Rattle.service_config.specs.Configuration.{no_draft, with_draft};
 ghost use Rattle.service_config.specs.Line.{HasParts};
 ghost use Rattle.service_config.specs.ReadView.{GivesSettings};
@@ -38,12 +38,12 @@ impl<A: Allocator> Model for SettingsDraft<A> {
 }
 
 impl<A: Allocator + Clone> SettingsDraft<A> {
-    fn new(alloc: &A, number: u32) -> Result<Self, AllocError>
-        ensures { IfOk result (λ draft. draft ≡ no_draft number) }
+    fn new(alloc: &A, number: u32, streams: bool) -> Result<Self, AllocError>
+        ensures { IfOk result (λ draft. draft ≡ no_draft number streams) }
     {
         Ok(SettingsDraft {
             last: None,
-            parts: SettingsParts::new(alloc, number)?,
+            parts: SettingsParts::new(alloc, number, streams)?,
         })
     }
 
@@ -119,7 +119,7 @@ impl<A: Allocator + Clone> SettingsDraft<A> {
 
     /// The settings, with the index of their hosts.
     fn into_settings(self, alloc: &A) -> Result<ServiceSettings<A>, AllocError>
-        requires { IsKept self.settings.setup.own self.settings.setup.domain self.settings.setup.locations }
+        requires { IsKeptWith self.settings.setup.streams self.settings.setup.own self.settings.setup.domain self.settings.setup.locations }
         ensures { IfOk result (λ settings. settings ≡ self.settings) }
     {
         let parts = self.parts;
@@ -153,15 +153,17 @@ impl<A: Allocator + Clone> SettingsDraft<A> {
     }
 }
 
-/// The settings that a text spells in a run with this number, or the number of its first malformed line.
+/// The settings that a text spells in a run with this number, of a proxy that has connections or none, or the number of its first
+/// malformed line.
 pub(crate) fn read_all<A: Allocator + Clone>(
     alloc: &A,
     text: &[u8],
     instance: u32,
+    streams: bool,
 ) -> Result<ServiceSettings<A>, SetupFault>
-    ensures { GivesSettings (read_settings instance text.now) result }
+    ensures { GivesSettings (read_settings instance streams text.now) result }
 {
-    let mut draft = SettingsDraft::new(alloc, instance)?;
+    let mut draft = SettingsDraft::new(alloc, instance, streams)?;
     let mut number = 1;
     let mut rest = text;
     loop {

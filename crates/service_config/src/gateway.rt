@@ -13,9 +13,6 @@ use sip_uri::{Hop, SipUri};
 use std::alloc::{Allocator, Global};
 use std::marker::Model;
 
-/// What is read has no connections.
-const NO_STREAMS: bool = false;
-
 /// Where requests for users that the domain has not got are sent.
 #[derive(Drop)]
 pub struct Gateway<A: Allocator = Global> {
@@ -75,15 +72,16 @@ impl<A: Allocator> Gateway<A> {
 }
 
 impl<A: Allocator + Clone> Gateway<A> {
-    /// The gateway of a q of at most 1000 and a URI that has a hop over UDP and no user; `None` for any other URI.
-    pub(crate) fn of(q: u16, uri: SipUri<A>) -> Option<Gateway<A>>
+    /// The gateway of a q of at most 1000 and a URI that has no user and a hop that requests can go by, over TCP where the proxy has
+    /// `streams`; `None` for any other URI.
+    pub(crate) fn of(streams: bool, q: u16, uri: SipUri<A>) -> Option<Gateway<A>>
         requires { q ≤ most_q }
-        ensures { result ≡ gateway_at q uri (hop_of uri) }
+        ensures { result ≡ gateway_at streams q uri (hop_of uri) }
     {
         match uri.next_hop() {
             None => None,
             Some(hop) => {
-                if is_reached(NO_STREAMS, hop.transport) && uri.user().is_none() {
+                if is_reached(streams, hop.transport) && uri.user().is_none() {
                     Some(Gateway { q, uri, hop })
                 } else {
                     None

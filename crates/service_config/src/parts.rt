@@ -87,12 +87,13 @@ fn add_gateway<A: Allocator>(
 }
 
 impl<A: Allocator + Clone> SettingsParts<A> {
-    /// No line was read, in a run with this number.
-    pub(crate) fn new(alloc: &A, number: u32) -> Result<Self, AllocError>
-        ensures { IfOk result (λ parts. parts ≡ no_settings number) }
+    /// No line was read, in a run with this number, of a proxy that has connections or none.
+    pub(crate) fn new(alloc: &A, number: u32, streams: bool) -> Result<Self, AllocError>
+        ensures { IfOk result (λ parts. parts ≡ no_settings number streams) }
     {
         let mut setup = SetupParts::new(alloc)?;
         setup.set_instance(number);
+        setup.set_streams(streams);
         Ok(SettingsParts {
             setup,
             realm: None,
@@ -155,12 +156,12 @@ impl<A: Allocator + Clone> SettingsParts<A> {
         requires { q ≤ most_q }
         ensures { IfOk result (λ done.
             (if done then Some self.new else None)
-            ≡ option_map (λ gateways. record self.old { gateways = gateways }) (with_gateway self.old.gateways q uri.now)) }
+            ≡ option_map (λ gateways. record self.old { gateways = gateways }) (with_gateway self.old.setup.streams self.old.gateways q uri.now)) }
     {
         let Some(uri) = uri_if(alloc, uri)? else {
             return Ok(false);
         };
-        let Some(gateway) = Gateway::of(q, uri) else {
+        let Some(gateway) = Gateway::of(self.setup.has_streams(), q, uri) else {
             return Ok(false);
         };
         add_gateway(&mut self.gateways, gateway)

@@ -46,10 +46,10 @@ pub enum ServiceForm {
     #[error("`trust A.B.C.D/N` stands behind strangers, before gateway: N from 0 to 32, without leading zeros as each number of the address, and all bits behind the first N are 0")]
     Trust,
     /// Where requests for users that the domain has not got are sent.
-    #[error("`gateway Q URI` stands behind trust, before location, 16 times at most: Q from 0 to 1000, without leading zeros; URI a sip URI of an IPv4 address, without user, headers or maddr and with no transport but udp, and no other gateway has its address and port")]
+    #[error("`gateway Q URI` stands behind trust, before location, 16 times at most: Q from 0 to 1000, without leading zeros; URI a sip URI of an IPv4 address, without user, headers or maddr and with no transport but udp or, unless --no-tcp is given, tcp; and no other gateway has its address and port")]
     Gateway,
     /// Where a user may be reached.
-    #[error("`location USER Q URI` or `location USER Q URI SECONDS` stands behind all others: USER of printed ASCII; Q from 0 to 1000; URI a sip URI of an IPv4 address, without headers or maddr and with no transport but udp; SECONDS from 1 to 181; numbers without leading zeros; a user has 256 targets at most, and none twice")]
+    #[error("`location USER Q URI` or `location USER Q URI SECONDS` stands behind all others: USER of printed ASCII; Q from 0 to 1000; URI a sip URI of an IPv4 address, without headers or maddr and with no transport but udp or, unless --no-tcp is given, tcp; SECONDS from 1 to 181; numbers without leading zeros; a user has 256 targets at most, and none twice")]
     Location,
     /// No line begins with this word.
     #[error("each line is empty, begins with `#`, or begins with own, instance, domain, prefer, depth, ring, large, realm, expires, strangers, trust, gateway or location, in lower case, and one space behind all but strangers")]

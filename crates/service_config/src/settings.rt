@@ -184,14 +184,6 @@ impl<A: Allocator> ServiceSettings<A> {
         self
     }
 
-    /// The same settings, with the setup of [`Setup::with_streams`].
-    pub fn with_streams(mut self) -> ServiceSettings<A>
-        ensures { result ≡ record self { setup = record self.setup { streams = true } } }
-    {
-        self.setup = self.setup.with_streams();
-        self
-    }
-
     /// The same settings, with the setup of [`Setup::giving_reasons`].
     pub fn giving_reasons(mut self) -> ServiceSettings<A>
         ensures { result ≡ record self { setup = record self.setup { reasons = true } } }
@@ -229,23 +221,29 @@ impl<A: Allocator> ServiceSettings<A> {
 }
 
 impl<A: Allocator + Clone> ServiceSettings<A> {
-    /// The settings that a text spells, in a run with this number. Its lines, each ended by LF, in this order: `own ADDRESS PORT`;
+    /// The settings that a text spells, in a run with this number, of a proxy that has connections (`streams`) or none. Its lines, each ended by LF, in this order: `own ADDRESS PORT`;
     /// `instance NUMBER`, without which it is the number of the run; `domain HOST`; `prefer LIST`; `depth STEPS`; `ring SECONDS`, 1
     /// to 181, without which it is 181; `large tcp`; `realm TEXT [ALGORITHMS]`; `expires LEAST USUAL MOST`, without which it is 60, 3600 and
     /// 86,400 seconds; `strangers`; any number of `trust A.B.C.D/N`; at most 16 of `gateway Q URI`; and any number of `location USER
     /// Q URI [SECONDS]`, which rings as long as `ring` says where it does not. But for `own` and `domain` each may be left out. An
     /// empty line says nothing, and neither does one that begins with `#`. What is malformed of the lines that a setup has, too, is
-    /// so here ([`Setup::read`]); so is a gateway whose URI has no hop over UDP, or has a user, or has the hop of another.
+    /// so here ([`Setup::read`]), but that a location may be reached over TCP where there are connections; so is a gateway whose URI has
+    /// no hop that requests can go by, as that of a location, or has a user, or has the address and the port of another.
     ///
     /// # Errors
     ///
     /// `Line`: the first malformed line, counted from 1 with those that say nothing, a missing one by the number that it would have.
     /// `NoMemory`: a growth was refused; whether a line behind is malformed was not looked at then.
-    pub fn read(alloc: A, text: &[u8], number: u32) -> Result<ServiceSettings<A>, SetupFault>
-        ensures found { IfOk result (IsServiceConfiguration number text.now) }
-        ensures only { (settings : spec.Settings) → IsServiceConfiguration number text.now settings → GivesSettings (Ok settings) result }
-        ensures fault { IfErr result (IsFaultOf number text.now) }
+    pub fn read(
+        alloc: A,
+        text: &[u8],
+        number: u32,
+        streams: bool,
+    ) -> Result<ServiceSettings<A>, SetupFault>
+        ensures found { IfOk result (IsServiceConfiguration number streams text.now) }
+        ensures only { (settings : spec.Settings) → IsServiceConfiguration number streams text.now settings → GivesSettings (Ok settings) result }
+        ensures fault { IfErr result (IsFaultOf number streams text.now) }
     {
-        read_all(&alloc, text, number)
+        read_all(&alloc, text, number, streams)
     }
 }

@@ -7,13 +7,18 @@ use std::alloc::Global;
 /// What has to stand before any other line.
 const HEAD: &[u8] = b"own 192.0.2.9 5060\ninstance 7\ndomain example.com\n";
 
-/// The number of the first malformed line, 0 where there is none; None where there was no memory.
-fn malformed(alloc: Global, text: &[u8]) -> Option<usize> {
-    match ServiceSettings::read(alloc, text, 9) {
+/// The number of the first malformed line, with connections or without, 0 where there is none; None where there was no memory.
+fn malformed_with(alloc: Global, streams: bool, text: &[u8]) -> Option<usize> {
+    match ServiceSettings::read(alloc, text, 9, streams) {
         Ok(_) => Some(0),
         Err(SetupFault::Line(number)) => Some(number),
         Err(SetupFault::NoMemory) => None,
     }
+}
+
+/// Without connections.
+fn malformed(alloc: Global, text: &[u8]) -> Option<usize> {
+    malformed_with(alloc, false, text)
 }
 
 /// A text behind another.
@@ -27,9 +32,9 @@ fn joined(alloc: Global, front: &[u8], rest: &[u8]) -> Option<Vec<u8>> {
 }
 
 /// The number of the first malformed line of a text behind the first three lines.
-fn malformed_behind(alloc: Global, rest: &[u8]) -> Option<usize> {
+fn malformed_behind(alloc: Global, streams: bool, rest: &[u8]) -> Option<usize> {
     let text = joined(alloc, HEAD, rest)?;
-    malformed(alloc, &text)
+    malformed_with(alloc, streams, &text)
 }
 
 /// Texts, and the number of the first malformed line of each, 0 where there is none.
@@ -81,7 +86,7 @@ fn a_text_is_refused_by_its_first_malformed_line(rt: HostRuntime) {
 }
 
 /// Lines behind the first three, and the number of the first of all that is malformed, 0 where there is none.
-const BEHIND: [(&[u8], usize); 80] = [
+const BEHIND: [(&[u8], usize); 81] = [
     // ring
     (b"ring 1\n", 0),
     (b"ring 181\n", 0),
@@ -197,6 +202,7 @@ const BEHIND: [(&[u8], usize); 80] = [
         6,
     ),
     (b"location bob 1000 sip:bob@example.com\n", 4),
+    (b"location bob 1000 sip:bob@192.0.2.4;transport=tcp\n", 4),
 ];
 
 #[test]
@@ -204,7 +210,38 @@ fn each_line_is_read_exactly(rt: HostRuntime) {
     for (rest, number) in BEHIND {
         holds_of(
             &rt,
-            malformed_behind(rt.alloc(), rest) == Some(number),
+            malformed_behind(rt.alloc(), false, rest) == Some(number),
+            "the first malformed line",
+            rest,
+        );
+    }
+}
+
+/// Such lines of a proxy that has connections.
+const OVER_TCP: [(&[u8], usize); 6] = [
+    (b"gateway 1000 sip:192.0.2.20;transport=tcp\n", 0),
+    (
+        b"gateway 1000 sip:192.0.2.20\ngateway 500 sip:192.0.2.20;transport=tcp\n",
+        5,
+    ),
+    (b"gateway 1000 sip:192.0.2.20;transport=tls\n", 4),
+    (
+        b"location bob 1000 sip:bob@192.0.2.4\nlocation bob 500 sip:bob@192.0.2.4;transport=tcp 15\n",
+        0,
+    ),
+    (
+        b"location bob 1000 sip:bob@192.0.2.4;transport=tcp\nlocation bob 500 sip:bob@192.0.2.4;transport=TCP\n",
+        5,
+    ),
+    (b"location bob 1000 sip:bob@192.0.2.4;transport=tls\n", 4),
+];
+
+#[test]
+fn a_proxy_with_connections_reaches_over_tcp(rt: HostRuntime) {
+    for (rest, number) in OVER_TCP {
+        holds_of(
+            &rt,
+            malformed_behind(rt.alloc(), true, rest) == Some(number),
             "the first malformed line",
             rest,
         );

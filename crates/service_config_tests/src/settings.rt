@@ -1,5 +1,5 @@
 //! What a configuration sets a service up with.
-use crate::holds::{holds, settings_of};
+use crate::holds::{holds, settings_of, settings_with};
 use service_config::{Expirations, Gateway, Net, Realm, ServiceSettings};
 use sip_digest::Algorithms;
 use sip_uri::{Hop, Transport};
@@ -133,6 +133,39 @@ fn what_no_line_says_is_as_usual(rt: HostRuntime) {
     match settings_of(rt.alloc(), LEAST) {
         None => holds(&rt, false, "a configuration"),
         Some(settings) => check_usual(&rt, &settings),
+    }
+}
+
+/// A configuration that is read with connections.
+const OVER_TCP: &[u8] =
+    b"own 192.0.2.9 5060\ndomain example.com\ngateway 1000 sip:192.0.2.20;transport=tcp\nlocation bob 1000 sip:bob@192.0.2.4;transport=tcp\n";
+
+fn over_tcp(addr: [u8; 4]) -> Hop {
+    Hop {
+        addr,
+        port: 5060,
+        transport: Transport::Tcp,
+    }
+}
+
+/// Whether the location and the gateway of settings are reached over TCP.
+fn is_over_tcp(settings: &ServiceSettings) -> bool {
+    let located = match settings.setup().locations() {
+        [location] => location.next_hop() == Some(over_tcp([192, 0, 2, 4])),
+        _ => false,
+    };
+    let by_gateway = match settings.gateways() {
+        [gateway] => gateway.hop() == over_tcp([192, 0, 2, 20]),
+        _ => false,
+    };
+    settings.setup().has_streams() && located && by_gateway
+}
+
+#[test]
+fn locations_and_gateways_are_reached_over_tcp(rt: HostRuntime) {
+    match settings_with(rt.alloc(), true, OVER_TCP) {
+        None => holds(&rt, false, "a configuration"),
+        Some(settings) => holds(&rt, is_over_tcp(&settings), "the hops"),
     }
 }
 

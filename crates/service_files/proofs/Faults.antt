@@ -1,5 +1,5 @@
 -- Why the users of a configuration cannot be had is a fault of its texts; and what is one of its text is one of its file.
-use Rattle.std.proofs.Common.{◌≡◌, ◌≤◌, ℕ, List, None, Option, Some, length, subst, sym}
+use Rattle.std.proofs.Common.{◌≡◌, ◌≤◌, ℕ, Bool, List, None, Option, Some, length, subst, sym}
 use Rattle.sip_via.specs.declared.own.Own.{Own}
 use Rattle.service_config.specs.Configuration.{IsServiceConfiguration}
 use Rattle.service_config.specs.Settings.{Settings}
@@ -18,14 +18,14 @@ not_too_long (users.Line n) e = absurd cc
 not_too_long users.NoUsers e = absurd cc
 not_too_long users.NoRealm e = absurd cc
 
-pub lacks_users : (text : List ℕ) (list : Option (List ℕ)) (number : ℕ) (settings : Settings) → IsServiceConfiguration number text settings → length text ≤ most_text
-    → (f : UsersFault) → IsUsersFaultOf (algorithms_in settings) list f → IsFaultOf text list number (fault_of_users f)
-lacks_users text list number settings spelled fits users.NoMemory is = fits
-lacks_users text list number settings spelled fits users.Unreadable is = (fits, record { settings = settings; spelled = spelled; lacks = is })
-lacks_users text list number settings spelled fits users.TooLong is = (fits, record { settings = settings; spelled = spelled; lacks = is })
-lacks_users text list number settings spelled fits (users.Line n) is = (fits, record { settings = settings; spelled = spelled; lacks = is })
-lacks_users text list number settings spelled fits users.NoUsers is = (fits, record { settings = settings; spelled = spelled; lacks = is })
-lacks_users text list number settings spelled fits users.NoRealm is = (fits, record { settings = settings; spelled = spelled; lacks = is })
+pub lacks_users : (text : List ℕ) (list : Option (List ℕ)) (number : ℕ) (streams : Bool) (settings : Settings) → IsServiceConfiguration number streams text settings → length text ≤ most_text
+    → (f : UsersFault) → IsUsersFaultOf (algorithms_in settings) list f → IsFaultOf text list number streams (fault_of_users f)
+lacks_users text list number streams settings spelled fits users.NoMemory is = fits
+lacks_users text list number streams settings spelled fits users.Unreadable is = (fits, record { settings = settings; spelled = spelled; lacks = is })
+lacks_users text list number streams settings spelled fits users.TooLong is = (fits, record { settings = settings; spelled = spelled; lacks = is })
+lacks_users text list number streams settings spelled fits (users.Line n) is = (fits, record { settings = settings; spelled = spelled; lacks = is })
+lacks_users text list number streams settings spelled fits users.NoUsers is = (fits, record { settings = settings; spelled = spelled; lacks = is })
+lacks_users text list number streams settings spelled fits users.NoRealm is = (fits, record { settings = settings; spelled = spelled; lacks = is })
 
 up_read : (f : DaemonFault) → IsConfigurationFault f → IsConfigurationFault (one_line_up f)
 up_read fault.Unreadable is = tt

@@ -1,5 +1,5 @@
 -- The configuration of a proxy: what its text sets a service up with, and who has a password, by the list of users that goes with a realm.
-use Rattle.std.specs.Prelude.{ℕ, List, Option, Some, None}
+use Rattle.std.specs.Prelude.{ℕ, Bool, List, Option, Some, None}
 use Rattle.std.specs.Option.{option_map}
 use Rattle.service_config.specs.Configuration.{IsServiceConfiguration}
 use Rattle.service_config.specs.Settings.{Realm, Settings}
@@ -38,13 +38,13 @@ IsUsersFaultOf (Some algorithms) (Some text) (fault.Line n) = listed.IsMalformed
 IsUsersFaultOf (Some algorithms) (Some text) fault.NoMemory = Unit {0}
 IsUsersFaultOf _ _ _ = ⊥
 
--- these texts, of the configuration and of its users, if there are any, set a proxy up so, in a run with this number
-pub record IsConfigured {A : Type 0} (text : List ℕ) (users : Option (List ℕ)) (number : ℕ) (configuration : Configuration A) : Type 0 where
-  pub settings : IsServiceConfiguration number text configuration.settings
+-- these texts, of the configuration and of its users, if there are any, set a proxy up so, in a run with this number, with connections or without
+pub record IsConfigured {A : Type 0} (text : List ℕ) (users : Option (List ℕ)) (number : ℕ) (streams : Bool) (configuration : Configuration A) : Type 0 where
+  pub settings : IsServiceConfiguration number streams text configuration.settings
   pub users_are : AreUsers (algorithms_in configuration.settings) users configuration.users
 
 -- the first one would, but its users cannot be had
-pub record LacksUsers (text : List ℕ) (users : Option (List ℕ)) (number : ℕ) (why : UsersFault) : Type 0 where
+pub record LacksUsers (text : List ℕ) (users : Option (List ℕ)) (number : ℕ) (streams : Bool) (why : UsersFault) : Type 0 where
   pub settings : Settings
-  pub spelled : IsServiceConfiguration number text settings
+  pub spelled : IsServiceConfiguration number streams text settings
   pub lacks : IsUsersFaultOf (algorithms_in settings) users why

@@ -1,5 +1,5 @@
 -- Why a proxy does not serve, or serves no longer.
-use Rattle.std.specs.Prelude.{◌<◌, ◌≤◌, ◌-◌, ℕ, List, Option, Some, None, length}
+use Rattle.std.specs.Prelude.{◌<◌, ◌≤◌, ◌-◌, ℕ, Bool, List, Option, Some, None, length}
 use Rattle.sip_via.specs.declared.own.Own.{Own}
 use Rattle.service_config.specs.Configuration.{IsMalformedAt}
 use Rattle.service_config.specs.declared.users_fault.UsersFault.{UsersFault}
@@ -37,22 +37,22 @@ in_file (Some own) f = one_line_up f
 abbrev pub most_text : ℕ
 most_text = 1048576
 
--- what each fault says of the text of a configuration that was read in a run with this number: it is too long; it is not, and this is its first
--- malformed line
-abbrev pub IsSettingsFaultOf : List ℕ → ℕ → DaemonFault → Type 0
-IsSettingsFaultOf text number fault.TooLong = most_text < length text
-IsSettingsFaultOf text number (fault.Line n) = (length text ≤ most_text) × IsMalformedAt number text n
-IsSettingsFaultOf text number fault.NoMemory = length text ≤ most_text
-IsSettingsFaultOf text number _ = ⊥
+-- what each fault says of the text of a configuration that was read in a run with this number, with connections or without: it is too long; it is not,
+-- and this is its first malformed line
+abbrev pub IsSettingsFaultOf : List ℕ → ℕ → (streams : Bool) → DaemonFault → Type 0
+IsSettingsFaultOf text number streams fault.TooLong = most_text < length text
+IsSettingsFaultOf text number streams (fault.Line n) = (length text ≤ most_text) × IsMalformedAt number streams text n
+IsSettingsFaultOf text number streams fault.NoMemory = length text ≤ most_text
+IsSettingsFaultOf text number streams _ = ⊥
 
--- what each fault says of the texts of a configuration that was read in a run with this number: it is too long; it is not, and this is its first
--- malformed line, or it is well-formed, and this is why its users cannot be had
-abbrev pub IsFaultOf : List ℕ → Option (List ℕ) → ℕ → DaemonFault → Type 0
-IsFaultOf text users number fault.TooLong = most_text < length text
-IsFaultOf text users number (fault.Line n) = (length text ≤ most_text) × IsMalformedAt number text n
-IsFaultOf text users number (fault.Users why) = (length text ≤ most_text) × LacksUsers text users number why
-IsFaultOf text users number fault.NoMemory = length text ≤ most_text
-IsFaultOf text users number _ = ⊥
+-- what each fault says of the texts of a configuration that was read in a run with this number, with connections or without: it is too long; it is not,
+-- and this is its first malformed line, or it is well-formed, and this is why its users cannot be had
+abbrev pub IsFaultOf : List ℕ → Option (List ℕ) → ℕ → (streams : Bool) → DaemonFault → Type 0
+IsFaultOf text users number streams fault.TooLong = most_text < length text
+IsFaultOf text users number streams (fault.Line n) = (length text ≤ most_text) × IsMalformedAt number streams text n
+IsFaultOf text users number streams (fault.Users why) = (length text ≤ most_text) × LacksUsers text users number streams why
+IsFaultOf text users number streams fault.NoMemory = length text ≤ most_text
+IsFaultOf text users number streams _ = ⊥
 
 abbrev pub fault_of_users : UsersFault → DaemonFault
 fault_of_users users.NoMemory = fault.NoMemory

@@ -83,21 +83,22 @@ fn users_in<A: Allocator + Clone>(
     }
 }
 
-/// The settings that a text spells, in a run with this number.
+/// The settings that a text spells, in a run with this number, with connections or without.
 fn settings_in<A: Allocator + Clone>(
     alloc: &A,
     text: &[u8],
     number: u32,
+    streams: bool,
 ) -> Result<ServiceSettings<A>, DaemonFault>
-    ensures ok { IfOk result (IsServiceConfiguration number text.now) }
+    ensures ok { IfOk result (IsServiceConfiguration number streams text.now) }
     ensures fits { OnOk result (length text.now ≤ most_text) }
     ensures too_long { IsErrOf result faults.TooLong ↔ (most_text < length text.now) }
-    ensures fault { IfErr result (IsSettingsFaultOf text.now number) }
+    ensures fault { IfErr result (IsSettingsFaultOf text.now number streams) }
 {
     if text.len() > MOST_TEXT {
         return Err(DaemonFault::TooLong);
     }
-    match ServiceSettings::read(alloc.clone()?, text, number) {
+    match ServiceSettings::read(alloc.clone()?, text, number, streams) {
         Ok(settings) => Ok(settings),
         Err(SetupFault::Line(line)) => Err(DaemonFault::Line(line)),
         Err(SetupFault::NoMemory) => Err(DaemonFault::NoMemory),
@@ -105,7 +106,8 @@ fn settings_in<A: Allocator + Clone>(
 }
 
 /// Reads the text of a configuration (see [`ServiceSettings::read`]), and the list of users that goes with its realm, if it has one (see
-/// [`UserList::read`]). Where it has no line of an instance, this number is the instance.
+/// [`UserList::read`]). Where it has no line of an instance, this number is the instance. Its locations and gateways are reached over
+/// TCP only where the proxy has connections (`streams`).
 ///
 /// # Errors
 ///
@@ -118,12 +120,13 @@ pub fn read_text<A: Allocator + Clone>(
     text: &[u8],
     users: Option<&[u8]>,
     number: u32,
+    streams: bool,
 ) -> Result<Configuration<A>, DaemonFault>
-    ensures ok { IfOk result (IsConfigured text.now (option_copied users.entry) number) }
+    ensures ok { IfOk result (IsConfigured text.now (option_copied users.entry) number streams) }
     ensures too_long { IsErrOf result faults.TooLong ↔ (most_text < length text.now) }
-    ensures fault { IfErr result (IsFaultOf text.now (option_copied users.entry) number) }
+    ensures fault { IfErr result (IsFaultOf text.now (option_copied users.entry) number streams) }
 {
-    let settings = settings_in(&alloc, text, number)?;
+    let settings = settings_in(&alloc, text, number, streams)?;
     let algorithms = algorithms_in(&settings);
     match users_in(alloc, algorithms, users) {
         Ok(users) => Ok(Configuration { settings, users }),
@@ -180,30 +183,32 @@ pub fn read_users<R: ProxyFiles>(
     }
 }
 
-/// Looks at the text of a configuration and at the file of its users, or, where none is named, at the text alone.
+/// Looks at the text of a configuration and at the file of its users, or, where none is named, at the text alone, for a proxy that has
+/// connections or none.
 fn check_text<R: ProxyFiles>(
     rt: &R,
     alloc: Global,
     text: &[u8],
     users: Option<&str>,
+    streams: bool,
 ) -> Result<(), DaemonFault>
     ensures { IfErr result IsConfigurationFault }
 {
     match read_users(rt, alloc, users)? {
         None => {
-            let settings = settings_in(&alloc, text, 0)?;
+            let settings = settings_in(&alloc, text, 0, streams)?;
             drop(settings);
         }
         Some(users) => {
-            let configuration = read_text(alloc, text, Some(&users), 0)?;
+            let configuration = read_text(alloc, text, Some(&users), 0, streams)?;
             drop(configuration);
         }
     }
     Ok(())
 }
 
-/// Looks at a configuration's file and at that of its users, or, where none is named, at the configuration alone; where the own address is said
-/// elsewhere, it stands in place of the file's.
+/// Looks at a configuration's file and at that of its users, or, where none is named, at the configuration alone, for a proxy that has connections
+/// (`streams`) or none; where the own address is said elsewhere, it stands in place of the file's.
 ///
 /// # Errors
 ///
@@ -215,11 +220,12 @@ pub fn check_files<R: ProxyFiles>(
     config: &str,
     users: Option<&str>,
     own: Option<Own>,
+    streams: bool,
 ) -> Result<(), DaemonFault>
     ensures { IfErr result IsConfigurationFault }
 {
     let text = read_config(rt, alloc, config, own)?;
-    match check_text(rt, alloc, &text, users) {
+    match check_text(rt, alloc, &text, users, streams) {
         Ok(()) => Ok(()),
         Err(fault) => Err(fault.in_file(own)),
     }

@@ -64,7 +64,7 @@ fn is_at(alloc: Global, text: &str) -> bool {
     let Ok(text) = text_at(alloc, Some(OWN), text) else {
         return false;
     };
-    match read_text(alloc, &text, None, 1) {
+    match read_text(alloc, &text, None, 1, false) {
         Ok(configuration) => Identity::of(configuration.settings.setup()).own == OWN,
         Err(_) => false,
     }
@@ -144,9 +144,9 @@ fn files_are_looked_at_with_the_address_that_is_said(rt: HostRuntime) {
     let alloc = rt.alloc();
     let written = fs::write(&rt, FILE, b"domain example.com\nring 0\n").is_ok();
     holds(&rt, written, "it is written");
-    let said = check_files(&rt, alloc, FILE, None, Some(OWN));
+    let said = check_files(&rt, alloc, FILE, None, Some(OWN), false);
     holds(&rt, said == Err(DaemonFault::Line(2)), "its second line");
-    let unsaid = check_files(&rt, alloc, FILE, None, None);
+    let unsaid = check_files(&rt, alloc, FILE, None, None, false);
     holds(&rt, unsaid == Err(DaemonFault::Line(1)), "no own address");
     let _ = fs::remove_file(&rt, FILE);
 }

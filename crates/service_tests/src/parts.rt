@@ -32,7 +32,7 @@ const OWN: Own = Own {
 
 /// The identity of a proxy that this text sets up, or why it sets up none.
 fn identity_of(alloc: Global, text: &[u8]) -> Result<Identity, DaemonFault> {
-    let configuration = read_text(alloc, text, None, RUN)?;
+    let configuration = read_text(alloc, text, None, RUN, false)?;
     Ok(Identity::of(configuration.settings.setup()))
 }
 
@@ -124,7 +124,7 @@ fn users_rows() -> &'static [UsersRow] {
 
 /// Why a configuration with these users is refused, if it is.
 fn refused_for(alloc: Global, text: &[u8], users: Option<&[u8]>) -> Option<DaemonFault> {
-    match read_text(alloc, text, users, RUN) {
+    match read_text(alloc, text, users, RUN, false) {
         Ok(_configuration) => None,
         Err(fault) => Some(fault),
     }
@@ -178,7 +178,7 @@ const FILE: &str = "daemon_parts_test_config";
 
 /// Why a proxy is not started by the files, of which that of the users may be missing, if it is not.
 fn refused_by<R: ProxyFiles>(rt: &R, alloc: Global, users: Option<&str>) -> Option<DaemonFault> {
-    match check_files(rt, alloc, FILE, users, None) {
+    match check_files(rt, alloc, FILE, users, None, false) {
         Ok(()) => None,
         Err(fault) => Some(fault),
     }

@@ -1,6 +1,6 @@
 -- Each fault of a part is one of the whole.
 use Rattle.std.proofs.Common.{◌≡◌, subst, sym}
-use Rattle.std.specs.Prelude.{◌≤◌, ℕ, List, Option, Some, None, Result, Ok, Err, IfErr, length}
+use Rattle.std.specs.Prelude.{◌≤◌, ℕ, Bool, List, Option, Some, None, Result, Ok, Err, IfErr, length}
 use Rattle.sip_via.specs.declared.own.Own.{Own}
 use Rattle.sip_digest.specs.declared.algorithm.Algorithms.{Algorithms}
 use Rattle.sip_digest.specs.declared.users.UserList.{UserList}
@@ -117,45 +117,45 @@ spelled_users None (Some t) (Some l) are = absurd are
 spelled_users None None None are = tt
 spelled_users None None (Some l) are = absurd are
 
-pub configured_spells : {A : Type 0} (text : List ℕ) (users : Option (List ℕ)) (number : ℕ) (configuration : Configuration A) → IsConfigured text users number configuration → Spells text users number
-configured_spells text users number configuration is =
+pub configured_spells : {A : Type 0} (text : List ℕ) (users : Option (List ℕ)) (number : ℕ) (streams : Bool) (configuration : Configuration A) → IsConfigured text users number streams configuration → Spells text users number streams
+configured_spells text users number streams configuration is =
     (configuration.settings, is.settings, spelled_users (algorithms_in configuration.settings) users configuration.users is.users_are)
 
-pub read_is_serve : (text : List ℕ) (users : Option (List ℕ)) (number : ℕ) (f : DaemonFault) → IsFaultOf text users number f → IsServeFaultOf text users number f
-read_is_serve text users number fault.TooLong is = is
-read_is_serve text users number (fault.Line n) is = is
-read_is_serve text users number (fault.Users why) is = is
-read_is_serve text users number fault.Random is = absurd is
-read_is_serve text users number fault.NoMemory is = is
-read_is_serve text users number fault.Unreadable is = absurd is
-read_is_serve text users number fault.Identity is = absurd is
-read_is_serve text users number fault.Clock is = absurd is
-read_is_serve text users number fault.Socket is = absurd is
-read_is_serve text users number fault.Control is = absurd is
-read_is_serve text users number fault.Metrics is = absurd is
-read_is_serve text users number fault.Journal is = absurd is
-read_is_serve text users number fault.Store is = absurd is
-read_is_serve text users number fault.Secret is = absurd is
+pub read_is_serve : (text : List ℕ) (users : Option (List ℕ)) (number : ℕ) (streams : Bool) (f : DaemonFault) → IsFaultOf text users number streams f → IsServeFaultOf text users number streams f
+read_is_serve text users number streams fault.TooLong is = is
+read_is_serve text users number streams (fault.Line n) is = is
+read_is_serve text users number streams (fault.Users why) is = is
+read_is_serve text users number streams fault.Random is = absurd is
+read_is_serve text users number streams fault.NoMemory is = is
+read_is_serve text users number streams fault.Unreadable is = absurd is
+read_is_serve text users number streams fault.Identity is = absurd is
+read_is_serve text users number streams fault.Clock is = absurd is
+read_is_serve text users number streams fault.Socket is = absurd is
+read_is_serve text users number streams fault.Control is = absurd is
+read_is_serve text users number streams fault.Metrics is = absurd is
+read_is_serve text users number streams fault.Journal is = absurd is
+read_is_serve text users number streams fault.Store is = absurd is
+read_is_serve text users number streams fault.Secret is = absurd is
 
-pub system_is_serve : (text : List ℕ) (users : Option (List ℕ)) (number : ℕ) (f : DaemonFault) → length text ≤ most_text → Spells text users number → IsSystemFault f → IsServeFaultOf text users number f
-system_is_serve text users number fault.NoMemory fits spells is = fits
-system_is_serve text users number fault.Clock fits spells is = (fits, spells)
-system_is_serve text users number fault.Socket fits spells is = (fits, spells)
-system_is_serve text users number fault.Control fits spells is = (fits, spells)
-system_is_serve text users number fault.Metrics fits spells is = (fits, spells)
-system_is_serve text users number fault.Journal fits spells is = (fits, spells)
-system_is_serve text users number fault.Store fits spells is = (fits, spells)
-system_is_serve text users number fault.Secret fits spells is = (fits, spells)
-system_is_serve text users number fault.Unreadable fits spells is = absurd is
-system_is_serve text users number fault.TooLong fits spells is = absurd is
-system_is_serve text users number (fault.Line n) fits spells is = absurd is
-system_is_serve text users number (fault.Users why) fits spells is = absurd is
-system_is_serve text users number fault.Random fits spells is = (fits, spells)
-system_is_serve text users number fault.Identity fits spells is = absurd is
+pub system_is_serve : (text : List ℕ) (users : Option (List ℕ)) (number : ℕ) (streams : Bool) (f : DaemonFault) → length text ≤ most_text → Spells text users number streams → IsSystemFault f → IsServeFaultOf text users number streams f
+system_is_serve text users number streams fault.NoMemory fits spells is = fits
+system_is_serve text users number streams fault.Clock fits spells is = (fits, spells)
+system_is_serve text users number streams fault.Socket fits spells is = (fits, spells)
+system_is_serve text users number streams fault.Control fits spells is = (fits, spells)
+system_is_serve text users number streams fault.Metrics fits spells is = (fits, spells)
+system_is_serve text users number streams fault.Journal fits spells is = (fits, spells)
+system_is_serve text users number streams fault.Store fits spells is = (fits, spells)
+system_is_serve text users number streams fault.Secret fits spells is = (fits, spells)
+system_is_serve text users number streams fault.Unreadable fits spells is = absurd is
+system_is_serve text users number streams fault.TooLong fits spells is = absurd is
+system_is_serve text users number streams (fault.Line n) fits spells is = absurd is
+system_is_serve text users number streams (fault.Users why) fits spells is = absurd is
+system_is_serve text users number streams fault.Random fits spells is = (fits, spells)
+system_is_serve text users number streams fault.Identity fits spells is = absurd is
 
-pub system_ends_serve : {V : Type 0} (text : List ℕ) (users : Option (List ℕ)) (number : ℕ) (r : Result V DaemonFault) → length text ≤ most_text → Spells text users number → IfErr r IsSystemFault → IfErr r (IsServeFaultOf text users number)
-system_ends_serve text users number (Ok v) fits spells is = tt
-system_ends_serve text users number (Err f) fits spells is = system_is_serve text users number f fits spells is
+pub system_ends_serve : {V : Type 0} (text : List ℕ) (users : Option (List ℕ)) (number : ℕ) (streams : Bool) (r : Result V DaemonFault) → length text ≤ most_text → Spells text users number streams → IfErr r IsSystemFault → IfErr r (IsServeFaultOf text users number streams)
+system_ends_serve text users number streams (Ok v) fits spells is = tt
+system_ends_serve text users number streams (Err f) fits spells is = system_is_serve text users number streams f fits spells is
 
 pub configuration_is_serve : (f : DaemonFault) → IsConfigurationFault f → IsServeFault f
 configuration_is_serve fault.Unreadable is = tt
@@ -173,21 +173,21 @@ configuration_is_serve fault.Store is = tt
 configuration_is_serve fault.Secret is = tt
 configuration_is_serve fault.Identity is = absurd is
 
-pub text_is_serve : (text : List ℕ) (users : Option (List ℕ)) (number : ℕ) (f : DaemonFault) → IsServeFaultOf text users number f → IsServeFault f
-text_is_serve text users number fault.Unreadable is = tt
-text_is_serve text users number fault.TooLong is = tt
-text_is_serve text users number (fault.Line n) is = tt
-text_is_serve text users number (fault.Users why) is = tt
-text_is_serve text users number fault.Random is = tt
-text_is_serve text users number fault.NoMemory is = tt
-text_is_serve text users number fault.Clock is = tt
-text_is_serve text users number fault.Socket is = tt
-text_is_serve text users number fault.Control is = tt
-text_is_serve text users number fault.Metrics is = tt
-text_is_serve text users number fault.Journal is = tt
-text_is_serve text users number fault.Store is = tt
-text_is_serve text users number fault.Secret is = tt
-text_is_serve text users number fault.Identity is = absurd is
+pub text_is_serve : (text : List ℕ) (users : Option (List ℕ)) (number : ℕ) (streams : Bool) (f : DaemonFault) → IsServeFaultOf text users number streams f → IsServeFault f
+text_is_serve text users number streams fault.Unreadable is = tt
+text_is_serve text users number streams fault.TooLong is = tt
+text_is_serve text users number streams (fault.Line n) is = tt
+text_is_serve text users number streams (fault.Users why) is = tt
+text_is_serve text users number streams fault.Random is = tt
+text_is_serve text users number streams fault.NoMemory is = tt
+text_is_serve text users number streams fault.Clock is = tt
+text_is_serve text users number streams fault.Socket is = tt
+text_is_serve text users number streams fault.Control is = tt
+text_is_serve text users number streams fault.Metrics is = tt
+text_is_serve text users number streams fault.Journal is = tt
+text_is_serve text users number streams fault.Store is = tt
+text_is_serve text users number streams fault.Secret is = tt
+text_is_serve text users number streams fault.Identity is = absurd is
 
 up_serves : (f : DaemonFault) → IsServeFault f → IsServeFault (one_line_up f)
 up_serves fault.Unreadable is = tt

@@ -1,7 +1,7 @@
 //! A proxy serves until it is told to stop.
 ghost use denote.Param.Send.{IsSync};
 ghost use Rattle.service_threads.specs.contracts.serving.Server.{the_row as server_row};
-ghost use Rattle.std.specs.Prelude.{◌≡◌, ◌/◌, ◌%◌, ◌^◌, ◌↔◌, ◌<◌, length, IfErr, OnOk, IsErrOf};
+ghost use Rattle.std.specs.Prelude.{◌≡◌, ◌/◌, ◌%◌, ◌^◌, ◌↔◌, ◌<◌, is_some, length, IfErr, OnOk, IsErrOf};
 ghost use Rattle.std.specs.Duration.{as_nanos};
 ghost use Rattle.std.specs.Option.{option_copied};
 ghost use Rattle.service_files.specs.declared.fault.DaemonFault.TheVariants as faults;
@@ -378,8 +378,8 @@ fn serve_configuration<
 }
 
 /// Reads a configuration's file and that of its users, and answers whether a proxy would serve by them; where no file of users is named,
-/// whether the configuration alone is well-formed. Where it has no line of an instance, none is missing, and no line of an address where the
-/// address is said here.
+/// whether the configuration alone is well-formed; a proxy that has connections (`streams`) or none. Where it has no line of an instance, none
+/// is missing, and no line of an address where the address is said here.
 ///
 /// # Errors
 ///
@@ -391,14 +391,16 @@ pub fn check_config<R: ProxyFiles>(
     config: &str,
     users: Option<&str>,
     own: Option<Own>,
+    streams: bool,
 ) -> Result<(), DaemonFault>
     ensures { IfErr result IsConfigurationFault }
 {
-    check_files(rt, alloc, config, users, own)
+    check_files(rt, alloc, config, users, own, streams)
 }
 
 /// Serves as [`serve`] does, by these texts of a configuration and of its users, if there are any; `reload` reads their files. Where a
-/// configuration has no line of an instance, this number of the run is its instance.
+/// configuration has no line of an instance, this number of the run is its instance. Its locations and gateways are reached over TCP only
+/// where the options ask for connections.
 ///
 /// # Errors
 ///
@@ -425,11 +427,12 @@ pub fn serve_text<
     number: u32,
     options: Options<'_>,
 ) -> Result<(), DaemonFault>
-    ensures served { OnOk result (Spells text.now (option_copied users.entry) number) }
+    ensures served { OnOk result (Spells text.now (option_copied users.entry) number (is_some options.entry.connections)) }
     ensures too_long { IsErrOf result faults.TooLong ↔ (most_text < length text.now) }
-    ensures fault { IfErr result (IsServeFaultOf text.now (option_copied users.entry) number) }
+    ensures fault { IfErr result (IsServeFaultOf text.now (option_copied users.entry) number (is_some options.entry.connections)) }
 {
-    let configuration = read_text(alloc, text, users, number)?;
+    let streams = options.connections.is_some();
+    let configuration = read_text(alloc, text, users, number, streams)?;
     serve_configuration(rt, alloc, configuration, number, options)
 }
 

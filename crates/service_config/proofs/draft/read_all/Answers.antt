@@ -24,9 +24,9 @@ returns-then-not-branch g c =
 
 pub loop-after-init : goal.loop-after-init
 loop-after-init g c =
-    let same : c.in_ok-draft.draft ≡ no_draft c.args.instance = c.in_ok-draft.ensures in (
+    let same : c.in_ok-draft.draft ≡ no_draft c.args.instance c.args.streams = c.in_ok-draft.ensures in (
       ap (λ (d : Draft). read_from 1 d (slice_split (is 10) c.args.text.now)) same,
-      subst IsSound (sym same) (none_sound c.args.instance),
+      subst IsSound (sym same) (none_sound c.args.instance c.args.streams),
       omega arith,
     )
 

@@ -6,7 +6,7 @@ use Rattle.service_config.proofs.draft.read_all.Given as goal
 -- reading on from here gives what the whole gives
 abbrev pub invariant-loop-after : goal.invariant-loop-after
 invariant-loop-after g l =
-    (read_from l.number l.draft (slice_split (is 10) l.rest) ≡ read_from 1 (no_draft l.instance) (slice_split (is 10) l.text))
+    (read_from l.number l.draft (slice_split (is 10) l.rest) ≡ read_from 1 (no_draft l.instance l.streams) (slice_split (is 10) l.text))
     × IsSound l.draft
     × (l.number + length l.rest ≤ 1 + length l.text)
 

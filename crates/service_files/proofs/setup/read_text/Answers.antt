@@ -9,4 +9,4 @@ returns-in-Err-clause-fault g c =
     let list = option_copied c.args.users in
     let settings = c.in_ok-settings.settings in
     let lacks : IsUsersFaultOf (algorithms_in settings) list c.in-Err.fault = rw c.algorithms_in-algorithms.ensures at c.in-Err.ensures.fault in
-    rw c.from.ensures (lacks_users text list c.args.number settings c.in_ok-settings.ensures.ok c.in_ok-settings.ensures.fits c.in-Err.fault lacks)
+    rw c.from.ensures (lacks_users text list c.args.number c.args.streams settings c.in_ok-settings.ensures.ok c.in_ok-settings.ensures.fits c.in-Err.fault lacks)

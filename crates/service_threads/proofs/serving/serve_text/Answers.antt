@@ -1,4 +1,4 @@
-use Rattle.std.proofs.Common.{rules, ◌≤◌, length}
+use Rattle.std.proofs.Common.{rules, ◌≤◌, is_some, length}
 use Rattle.std.specs.Option.{option_copied}
 use Rattle.service_files.specs.Faults.{most_text}
 use Rattle.service_threads.proofs.Faults.{configured_spells, system_ends_serve}
@@ -7,5 +7,5 @@ use Rattle.service_threads.proofs.serving.serve_text.Goals as goal
 pub returns-clause-fault : goal.returns-clause-fault
 returns-clause-fault g c =
     let fits : length c.args.text.now ≤ most_text = search rules in
-    let spells = configured_spells c.args.text.now (option_copied c.args.users) c.args.number c.in_ok-configuration.configuration c.in_ok-configuration.ensures.ok in
-    system_ends_serve c.args.text.now (option_copied c.args.users) c.args.number c.serve_configuration.result fits spells c.serve_configuration.ensures
+    let spells = configured_spells c.args.text.now (option_copied c.args.users) c.args.number (is_some c.args.options.connections) c.in_ok-configuration.configuration c.in_ok-configuration.ensures.ok in
+    system_ends_serve c.args.text.now (option_copied c.args.users) c.args.number (is_some c.args.options.connections) c.serve_configuration.result fits spells c.serve_configuration.ensures
