@@ -1,6 +1,6 @@
 -- The Route values that lead to the proxy itself, taken away one by one.
-use Rattle.proxy_routing.proofs.Common.{◌≡◌, ◌∙◌, Bool, true, false, List, ℕ, zero, suc, Option, Some, refl, sym, arith, ap, MessageText, Own, ◌&&◌, ◌||◌}
-use Rattle.std.proofs.Common.{None, ◌+◌, ◌≤◌, [], ◌∷◌, ◌++◌, cond, drop, eqb, length, map, option_map}
+use Rattle.proxy_routing.proofs.Common.{◌≡◌, ◌∙◌, Bool, true, false, List, ℕ, zero, suc, Option, Some, refl, sym, arith, ap, MessageText, Own, ◌&&◌}
+use Rattle.std.proofs.Common.{None, ◌||◌, ◌+◌, ◌≤◌, [], ◌∷◌, ◌++◌, cond, drop, eqb, length, map, option_map}
 use Rattle.std.proofs.lemmas.Bool.{cond-false, cond-true}
 use Rattle.std.proofs.lemmas.List.{drop-drop, length-map}
 use Rattle.std.specs.List.{flat_map, onto_first}
