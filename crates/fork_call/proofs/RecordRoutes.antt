@@ -1,6 +1,6 @@
 -- The URI of the proxy with a token is a header value.
-use Rattle.fork_call.proofs.OpeningCommon.{◌≡◌, ℕ, Bool, true, false, List, [], Option, Some, None, IfSome, refl, ap, arith, codes, Own}
-use Rattle.std.specs.Prelude.{◌∷◌, ◌++◌, not, reverse}
+use Rattle.fork_call.proofs.OpeningCommon.{◌≡◌, ℕ, Bool, true, false, List, [], Option, Some, None, refl, ap, arith, codes, Own}
+use Rattle.std.specs.Prelude.{◌∷◌, ◌++◌, not, reverse, IfSome}
 use Rattle.std.specs.Fmt.{decimal}
 use Rattle.sip_lex.specs.Values.{begins_with_space}
 use Rattle.sip_text.proofs.laws.Good.{and_both}

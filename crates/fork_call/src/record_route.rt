@@ -1,5 +1,5 @@
 //! The Record-Route line by which the proxy stays on the path of a dialog.
-ghost use Rattle.std.specs.Prelude.{◌≡◌, ◌&&◌, ◌++◌, true, IfOk, IfSome, IsTrue, None, OnOk, Some, if◌then◌else◌};
+ghost use Rattle.std.specs.Prelude.{◌≡◌, ◌&&◌, ◌++◌, false, true, IfOk, IfSome, IsTrue, None, OnOk, Some, if◌then◌else◌};
 ghost use Rattle.std.specs.Option.{option_copied, option_map};
 ghost use Rattle.sip_text.specs.Message.{is_line, is_value};
 ghost use Rattle.sip_via.specs.OwnVia.{IsOwn};

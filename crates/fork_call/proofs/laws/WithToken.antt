@@ -1,5 +1,5 @@
 -- A setup with another token leads where it led, and stops what it stopped: only the Record-Route line is another.
-use Rattle.fork_call.proofs.OpeningCommon.{◌≡◌, [], true, ℕ, Bool, List, None, Some, Option, Ok, Err, Result, IfOk, list_all, Call, CandidateTarget, IsAdmitted, IsBegun, MessageText, OpenedRequest, Own, Rules, has_hop, top_value, via_of}
+use Rattle.fork_call.proofs.OpeningCommon.{◌≡◌, [], true, false, ℕ, Bool, List, None, Some, Option, Ok, Err, Result, IfOk, list_all, Call, CandidateTarget, IsAdmitted, IsBegun, MessageText, OpenedRequest, Own, Rules, has_hop, top_value, via_of}
 use Rattle.std.specs.Prelude.{IfErr}
 use Rattle.sip_route.specs.declared.route_values.FirstRoute.{FirstRoute}
 use Rattle.sip_route.specs.RouteValues.{first_route}
