@@ -25,7 +25,7 @@ ghost use Rattle.proxy_routing.specs.Targets.{has_hop, targets_of};
 use crate::large::is_large;
 use crate::opening_request::OpeningRequest;
 use crate::prepared_request::PreparedRequest;
-use crate::record_route::{RecordRoutes, is_stream, record_routes_of};
+use crate::record_route::{RecordRoutes, is_stream, record_routes_of, text_in};
 use call_branch::{Destination, OpenedRequest, Opening};
 use call_caller::row_place;
 use call_model::TriedContacts;
@@ -226,7 +226,7 @@ fn open_at<A: Allocator + Clone>(
     let from = is_stream(caller.transport);
     let recorded = record_routes_of(alloc.clone()?, setup, token, &request, from)?;
     let RecordRoutes { datagram, stream } = recorded;
-    let large = is_large(alloc.clone()?, setup, &request, uri, datagram.as_deref())?;
+    let large = is_large(alloc.clone()?, setup, &request, uri, text_in(&datagram))?;
     let opened = OpenedRequest::new(Opening {
         number: NO_NUMBER,
         own: setup.own(),

@@ -85,6 +85,16 @@ fn two_are_value(own: Own, first: bool, token: Option<&[u8]>)
     fact_own(own);
 }
 
+/// The bytes of a text, if there is one.
+pub(crate) fn text_in<A: Allocator>(text: &Option<Vec<u8, A>>) -> Option<&[u8]>
+    ensures { option_copied result ≡ option_map (λ v. v.items) text.now }
+{
+    match text {
+        Some(text) => Some(text),
+        None => None,
+    }
+}
+
 /// The token of a dialog with this Call-ID, where there is to be one.
 fn token_text<A: Allocator + Clone>(
     alloc: A,
@@ -200,6 +210,27 @@ fn stream_route<A: Allocator>(
     Ok(Some(route))
 }
 
+/// Those of a dialog with this token, if there is one, of which the request came over a connection or not.
+fn routes_with<A: Allocator + Clone>(
+    alloc: A,
+    setup: &Setup<A>,
+    from: bool,
+    token: Option<&[u8]>,
+) -> Result<RecordRoutes<A>, AllocError>
+    requires { IfSome (option_copied token) (λ text. is_line text ≡ true) }
+    ensures datagram { IfOk result (λ made. option_map (λ v. v.items) made.datagram ≡ Some (dialog_routes (route_of setup.now) from false (option_copied token.entry))) }
+    ensures stream { IfOk result (λ made. option_map (λ v. v.items) made.stream ≡ (if setup.now.streams then Some (dialog_routes (route_of setup.now) from true (option_copied token.entry)) else None)) }
+    ensures good { IfOk result (λ made. IfSome (option_map (λ v. v.items) made.datagram) (λ value. IsTrue (is_value value))) }
+    ensures good_stream { IfOk result (λ made. IfSome (option_map (λ v. v.items) made.stream) (λ value. IsTrue (is_value value))) }
+{
+    let datagram = dialog_routes(alloc.clone()?, setup.route(), from, false, token)?;
+    let stream = stream_route(alloc, setup, from, token)?;
+    Ok(RecordRoutes {
+        datagram: Some(datagram),
+        stream,
+    })
+}
+
 /// Those by which the proxy stays on the path of the dialog that the request opens, which came over a connection or not, with this token in
 /// place of the setup's own, if there is one. It takes memory only where there are any.
 pub(crate) fn record_routes_of<A: Allocator + Clone>(
@@ -222,11 +253,5 @@ pub(crate) fn record_routes_of<A: Allocator + Clone>(
     }
     let token = token_or_own(setup, token);
     let text = token_text(alloc.clone()?, token, request.call_id())?;
-    let text = text.as_deref();
-    let datagram = dialog_routes(alloc.clone()?, setup.route(), from, false, text)?;
-    let stream = stream_route(alloc, setup, from, text)?;
-    Ok(RecordRoutes {
-        datagram: Some(datagram),
-        stream,
-    })
+    routes_with(alloc, setup, from, text_in(&text))
 }
