@@ -1,5 +1,5 @@
-//! Tests of `proxy_dispatch`: what becomes of each kind of datagram; and of what `proxy_threads` has of carrying and sending. They stand
-//! apart from those crates so that these are not proved twice.
+//! Tests of `proxy_dispatch`: what becomes of each kind of datagram; and of what `proxy_threads` has of carrying, waiting and sending. They
+//! stand apart from those crates so that these are not proved twice.
 #![tactic(auto)]
 
 #[cfg(test)]
@@ -36,3 +36,5 @@ mod sending;
 mod strays;
 #[cfg(test)]
 mod texts;
+#[cfg(test)]
+mod waits;

@@ -8,7 +8,7 @@ use call_messages::lines::{CALL_ID, FROM, MARKED};
 use call_table::{Schedule, Shelf};
 use fork_call::{Call, Carried, carry};
 use proxy_dispatch::Handled;
-use proxy_threads::{NextStep, ReadyMemory, carry_due, carry_from, next_step, own_of};
+use proxy_threads::{NextStep, ReadyMemory, carry_due, carry_from, look_at, next_step, own_of};
 use sip_uri::Hop;
 use std::alloc::{AllocError, Global};
 use std::sync::Wait;
@@ -74,6 +74,39 @@ fn a_call_says_when_it_is_carried_next(rt: HostRuntime) {
         &rt,
         ends_in_time(&rt, rt.alloc()) == Some(true),
         "a request that is answered 404",
+    );
+}
+
+/// When call 0 is looked at where it is due at this moment.
+fn looked_at<R: Wait>(rt: &R, shelf: &Shelf<Call<Global>>, due: u64) -> Option<u64> {
+    shelf.with(rt, 0, |call| look_at(call, due))
+}
+
+/// Whether a call is looked at when it is due, and once each of its branches has ended as the transaction of its caller ends, in a step of 20
+/// milliseconds.
+fn is_looked_at_in_steps<R: Wait>(rt: &R, alloc: Global) -> Option<bool> {
+    let shelf = shelf_of(alloc)?;
+    let mut outbox = Outbox::new(alloc);
+    let opened = becomes(rt, alloc, &shelf, &[], &mut outbox);
+    let before = looked_at(rt, &shelf, 511);
+    let taken = lines_become(rt, alloc, &shelf, &NOT_FOUND, &mut outbox);
+    let carried = shelf.with(rt, 0, |call| step(call, &mut outbox, 7));
+    let behind = looked_at(rt, &shelf, 5_007);
+    Some(
+        opened == Some(Handled::Opened(0))
+            && before == Some(511)
+            && taken == Some(Handled::Delivered(0))
+            && carried.is_some()
+            && behind == Some(32_020),
+    )
+}
+
+#[test]
+fn a_call_that_has_ended_is_looked_at_in_steps(rt: HostRuntime) {
+    holds(
+        &rt,
+        is_looked_at_in_steps(&rt, rt.alloc()) == Some(true),
+        "a request that was answered 404",
     );
 }
 

@@ -2,4 +2,3 @@ pub mod Handling
 pub mod Journal
 pub mod Noting
 pub mod Setups
-pub mod Waits

@@ -5,10 +5,9 @@ ghost use Rattle.fork_model.specs.Log.{core_of};
 ghost use Rattle.fork_model.specs.Table.{is_finished};
 
 use crate::notes::NoteTables;
-use crate::refusals::Refusals;
-use crate::walk::Walk;
 use call_table::{Schedule, Shelf};
 use fork_call::Call;
+use proxy_threads::{CallWalk, Refusals};
 use std::alloc::{AllocError, Allocator, Global};
 use std::sync::atomic::{AtomicU64, Ordering};
 use std::sync::{Mutex, Wait};
@@ -36,7 +35,7 @@ pub struct ServiceCalls<A: Allocator + Copy = Global> {
     pub(crate) schedule: Schedule<A>,
     /// The calls that lack memory.
     pub(crate) refusals: Refusals,
-    pub(crate) walk: Mutex<Walk>,
+    pub(crate) walk: Mutex<CallWalk>,
     /// What is noted of the calls.
     pub(crate) notes: NoteTables,
     /// No call below this number is open.
@@ -66,7 +65,7 @@ impl<A: Allocator + Copy> ServiceCalls<A> {
             shelf,
             schedule,
             refusals: Refusals::new(heap)?,
-            walk: Mutex::new(Walk::new()),
+            walk: Mutex::new(CallWalk::new()),
             notes: NoteTables::new(heap)?,
             unopened: AtomicU64::new(0),
         })

@@ -17,7 +17,6 @@ mod failing;
 mod journal;
 mod leaving;
 mod notes;
-mod refusals;
 mod service;
 mod settings;
 mod setup;
@@ -27,7 +26,6 @@ mod targets;
 mod terms;
 mod timing;
 mod visit;
-mod walk;
 
 pub use calls::ServiceCalls;
 pub use journal::append_block;

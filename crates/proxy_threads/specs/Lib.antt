@@ -2,3 +2,4 @@ pub mod CallId
 pub mod Groups
 pub mod Runs
 pub mod Next
+pub mod Waits

@@ -13,13 +13,13 @@ use Rattle.fork_call.proofs.laws.Crossing.{call_send}
 use Rattle.fork_call.specs.contracts.call.Call.{the_row as call_row}
 use Rattle.metrics.proofs.laws.Crossing.{counts_sync}
 use Rattle.proxy_service.proofs.notes.NoteTables.TheSendSync as notes
-use Rattle.proxy_service.proofs.refusals.Refusals.TheSendSync as refusals
 use Rattle.proxy_service.proofs.terms.RunSettings.TheSendSync as terms
-use Rattle.proxy_service.proofs.walk.Walk.TheSendSync as walk
 use Rattle.proxy_service.specs.contracts.admission.ServiceAdmission as admission
 use Rattle.proxy_service.specs.contracts.calls.ServiceCalls as calls
 use Rattle.proxy_service.specs.contracts.service.Service as service
 use Rattle.proxy_service.specs.contracts.settings.CurrentSettings as settings
+use Rattle.proxy_threads.proofs.refusals.Refusals.TheSendSync as refusals
+use Rattle.proxy_threads.proofs.walk.CallWalk.TheSendSync as walk
 use Rattle.service_admission.proofs.laws.Crossing.{quota_sync}
 use Rattle.service_admission.proofs.lifetime.Lifetime.TheSendSync as lifetime
 use Rattle.service_files.proofs.laws.Crossing as configuration

@@ -5,21 +5,21 @@ use crate::refusals::wait_behind;
 
 /// Where the walk over all calls stands. Moments are in milliseconds.
 #[derive(Clone, Copy, PartialEq, Eq, Debug)]
-pub(crate) struct Walk {
+pub struct CallWalk {
     /// The number from which on calls are to be looked at; none where no walk is due.
-    pub(crate) from: Option<u64>,
+    from: Option<u64>,
     /// Not before this moment.
-    pub(crate) at: u64,
+    at: u64,
     /// Whether a deadline was missed since the walk began.
-    pub(crate) again: bool,
+    again: bool,
     /// The last wait before a walk.
-    pub(crate) wait: u64,
+    wait: u64,
 }
 
-impl Walk {
+impl CallWalk {
     /// No walk is due.
-    pub(crate) fn new() -> Walk {
-        Walk {
+    pub fn new() -> CallWalk {
+        CallWalk {
             from: None,
             at: 0,
             again: false,
@@ -29,7 +29,7 @@ impl Walk {
 
     /// Notes whether a deadline was missed since the last look. A walk begins behind a wait then, longer each time until none is missed; where
     /// one is under way another one follows it.
-    pub(crate) fn note(&mut self, is_missed: bool, now: u64)
+    pub fn note(&mut self, is_missed: bool, now: u64)
         ensures missed { is_missed ≡ true → (self.new.from ≡ Some 0) ⊎ (self.new.again ≡ true) }
         ensures again { (from : ℕ) → self.old.from ≡ Some from → self.old.again ≡ true → self.new.again ≡ true }
     {
@@ -51,12 +51,12 @@ impl Walk {
     }
 
     /// Notes that the calls before this number were looked at.
-    pub(crate) fn pass(&mut self, number: u64) {
+    pub fn pass(&mut self, number: u64) {
         self.from = Some(number);
     }
 
     /// Notes that all calls were looked at. Where a deadline was missed meanwhile the next walk begins behind a wait.
-    pub(crate) fn finish(&mut self, now: u64)
+    pub fn finish(&mut self, now: u64)
         ensures { self.old.again ≡ true → self.new.from ≡ Some 0 }
     {
         if self.again {
@@ -67,12 +67,12 @@ impl Walk {
     }
 
     /// The number from which on calls are to be looked at now.
-    pub(crate) fn due(&self, now: u64) -> Option<u64> {
+    pub fn due(&self, now: u64) -> Option<u64> {
         if self.at <= now { self.from } else { None }
     }
 
     /// When the walk goes on; the end of time where none is due.
-    pub(crate) fn next(&self) -> u64 {
+    pub fn next(&self) -> u64 {
         if self.from.is_some() {
             self.at
         } else {

@@ -1,6 +1,6 @@
 //! Calls that lacked memory, and how long each waits until it is carried again.
 ghost use Rattle.std.specs.Prelude.{◌≡◌, ◌≤◌};
-ghost use Rattle.proxy_service.specs.Waits.{wait_behind};
+ghost use Rattle.proxy_threads.specs.Waits.{wait_behind};
 
 use std::alloc::{AllocError, Global};
 use std::sync::atomic::{AtomicU64, Ordering};
@@ -24,7 +24,7 @@ pub(crate) fn wait_behind(before: u64) -> u64
 
 /// A call that lacks memory, and its last wait in milliseconds.
 #[derive(Clone, Copy, Drop)]
-struct Refused {
+struct RefusedCall {
     number: u64,
     wait: u64,
 }
@@ -32,7 +32,7 @@ struct Refused {
 /// The calls that lack memory now. The room for them is taken at the start, so that none is needed where there is none.
 #[derive(Drop)]
 struct RefusedCalls {
-    calls: Vec<Refused>,
+    calls: Vec<RefusedCall>,
 }
 
 impl RefusedCalls {
@@ -48,7 +48,7 @@ impl RefusedCalls {
             }
         }
         let wait = wait_behind(0);
-        if self.calls.len() < MOST_CALLS && self.calls.push(Refused { number, wait }).is_ok() {
+        if self.calls.len() < MOST_CALLS && self.calls.push(RefusedCall { number, wait }).is_ok() {
             wait
         } else {
             LONGEST
@@ -63,7 +63,7 @@ impl RefusedCalls {
 
 /// The calls that lack memory now, for all threads.
 #[derive(Drop)]
-pub(crate) struct Refusals {
+pub struct Refusals {
     /// How many there are, so that where there is none no lock is taken.
     count: AtomicU64,
     refused: Mutex<RefusedCalls>,
@@ -75,7 +75,7 @@ impl Refusals {
     /// # Errors
     ///
     /// Only where the allocator refuses.
-    pub(crate) fn new(alloc: Global) -> Result<Refusals, AllocError> {
+    pub fn new(alloc: Global) -> Result<Refusals, AllocError> {
         Ok(Refusals {
             count: AtomicU64::new(0),
             refused: Mutex::new(RefusedCalls {
@@ -84,8 +84,9 @@ impl Refusals {
         })
     }
 
-    /// How many milliseconds the call of this number waits, which lacked memory once more.
-    pub(crate) fn refuse<R: Wait>(&self, rt: &R, number: u64) -> u64 {
+    /// How many milliseconds the call of this number waits, which lacked memory once more: 10, 20, 40 and so on, up to 5,000. Where 4,096 others
+    /// lack it, it waits for the longest time.
+    pub fn refuse<R: Wait>(&self, rt: &R, number: u64) -> u64 {
         let mut refused = self.refused.lock(rt);
         let wait = refused.refuse(number);
         self.count
@@ -94,7 +95,7 @@ impl Refusals {
     }
 
     /// The call of this number lacks none any more.
-    pub(crate) fn clear<R: Wait>(&self, rt: &R, number: u64) {
+    pub fn clear<R: Wait>(&self, rt: &R, number: u64) {
         if self.count.load(Ordering::SeqCst) == 0 {
             return;
         }
