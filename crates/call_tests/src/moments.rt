@@ -135,6 +135,25 @@ fn way(alloc: Global, hops: &[Hop], route: FirstRoute, text: &[u8]) -> Option<Ho
     }
 }
 
+/// The hop that a setup has for the URI of this text, where the contacts have these hops.
+fn own_way(alloc: Global, hops: &[Hop], text: &[u8]) -> Option<Hop> {
+    let setup = setup_of(alloc, SETUP)?;
+    let contacts = contacts_of(alloc, hops)?;
+    match (setup.with_ways(alloc, &contacts), SipUri::read(alloc, text)) {
+        (Ok(setup), Ok(uri)) => setup.way_to(&uri),
+        _ => None,
+    }
+}
+
+#[test]
+fn a_setup_has_ways_to_contacts(rt: HostRuntime) {
+    let both = [TRANSLATED, ANOTHER];
+    let last = own_way(rt.alloc(), &both, b"sip:bob@10.0.0.2:5070");
+    holds(&rt, last == Some(ANOTHER), "to the last of them");
+    let other = own_way(rt.alloc(), &both, b"sip:bob@10.0.0.2");
+    holds(&rt, other.is_none(), "to another URI");
+}
+
 #[test]
 fn a_request_to_a_contact_goes_by_its_hop(rt: HostRuntime) {
     let to = b"sip:bob@10.0.0.2:5070";

@@ -69,158 +69,80 @@ fn an_ack_for_the_proxys_own_answer_is_absorbed(rt: HostRuntime) {
 const OWN_VIA: &[u8] =
     b"Via: SIP/2.0/UDP 192.0.2.9:5060;branch=z9hG4bKb2d0abfaf1e08f4822d9c3aa7e678aa5.7.0.65535";
 
+/// A line that says nothing of the way.
+const PLAIN: &[u8] = b"s: a call";
+
+/// ACKs that cannot go on: their start lines, their Via and Max-Forwards lines, and one line more.
+const CANNOT_GO_ON: [[&[u8]; 4]; 13] = [
+    // for the domain, and for the proxy's own address
+    [b"ACK sip:bob@Example.com SIP/2.0", VIA, SEVENTY, PLAIN],
+    [b"ACK sip:bob@192.0.2.9 SIP/2.0", VIA, SEVENTY, PLAIN],
+    // no hop leads further
+    [b"ACK sip:bob@example.org SIP/2.0", VIA, SEVENTY, PLAIN],
+    [
+        b"ACK sip:bob@192.0.2.4 SIP/2.0",
+        VIA,
+        SEVENTY,
+        b"Route: <sip:example.org;lr>",
+    ],
+    // no more proxy may pass it on
+    [
+        b"ACK sip:bob@192.0.2.4 SIP/2.0",
+        VIA,
+        b"Max-Forwards: 0",
+        PLAIN,
+    ],
+    // of another scheme
+    [b"ACK tel:1 SIP/2.0", VIA, SEVENTY, PLAIN],
+    // its top Via value cannot be read
+    [
+        b"ACK sip:bob@192.0.2.4 SIP/2.0",
+        b"v: nonsense",
+        SEVENTY,
+        PLAIN,
+    ],
+    // its branch is none of RFC 3261
+    [
+        b"ACK sip:bob@192.0.2.4 SIP/2.0",
+        b"v: SIP/2.0/UDP 192.0.2.1;branch=a",
+        SEVENTY,
+        PLAIN,
+    ],
+    // so many proxies may not pass it on
+    [
+        b"ACK sip:bob@192.0.2.4 SIP/2.0",
+        VIA,
+        b"Max-Forwards: 256",
+        PLAIN,
+    ],
+    // its Route value, or its URI, cannot be read
+    [
+        b"ACK sip:bob@192.0.2.4 SIP/2.0",
+        VIA,
+        SEVENTY,
+        b"Route: sip:192.0.2.5",
+    ],
+    [b"ACK sip:bob@ SIP/2.0", VIA, SEVENTY, PLAIN],
+    // the proxy sent it on before
+    [
+        b"ACK sip:bob@192.0.2.4;method=ACK SIP/2.0",
+        OWN_VIA,
+        SEVENTY,
+        b"Route: <sip:192.0.2.5:5062;lr>",
+    ],
+    // its body is cut short
+    [b"ACK sip:bob@192.0.2.4 SIP/2.0", VIA, SEVENTY, b"l: 5"],
+];
+
 #[test]
 fn an_ack_that_cannot_go_on_is_dropped(rt: HostRuntime) {
-    let lines: [&[&[u8]]; 13] = [
-        // for the domain, and for the proxy's own address
-        &[
-            b"ACK sip:bob@Example.com SIP/2.0",
-            VIA,
-            SEVENTY,
-            FROM,
-            ANSWERED,
-            CALL_ID,
-            CSEQ,
-            b"",
-        ],
-        &[
-            b"ACK sip:bob@192.0.2.9 SIP/2.0",
-            VIA,
-            SEVENTY,
-            FROM,
-            ANSWERED,
-            CALL_ID,
-            CSEQ,
-            b"",
-        ],
-        // no hop leads further
-        &[
-            b"ACK sip:bob@example.org SIP/2.0",
-            VIA,
-            SEVENTY,
-            FROM,
-            ANSWERED,
-            CALL_ID,
-            CSEQ,
-            b"",
-        ],
-        &[
-            b"ACK sip:bob@192.0.2.4 SIP/2.0",
-            VIA,
-            SEVENTY,
-            b"Route: <sip:example.org;lr>",
-            FROM,
-            ANSWERED,
-            CALL_ID,
-            CSEQ,
-            b"",
-        ],
-        // no more proxy may pass it on
-        &[
-            b"ACK sip:bob@192.0.2.4 SIP/2.0",
-            VIA,
-            b"Max-Forwards: 0",
-            FROM,
-            ANSWERED,
-            CALL_ID,
-            CSEQ,
-            b"",
-        ],
-        // of another scheme
-        &[
-            b"ACK tel:1 SIP/2.0",
-            VIA,
-            SEVENTY,
-            FROM,
-            ANSWERED,
-            CALL_ID,
-            CSEQ,
-            b"",
-        ],
-        // its top Via value cannot be read
-        &[
-            b"ACK sip:bob@192.0.2.4 SIP/2.0",
-            b"v: nonsense",
-            SEVENTY,
-            FROM,
-            ANSWERED,
-            CALL_ID,
-            CSEQ,
-            b"",
-        ],
-        // its branch is none of RFC 3261
-        &[
-            b"ACK sip:bob@192.0.2.4 SIP/2.0",
-            b"v: SIP/2.0/UDP 192.0.2.1;branch=a",
-            SEVENTY,
-            FROM,
-            ANSWERED,
-            CALL_ID,
-            CSEQ,
-            b"",
-        ],
-        // so many proxies may not pass it on
-        &[
-            b"ACK sip:bob@192.0.2.4 SIP/2.0",
-            VIA,
-            b"Max-Forwards: 256",
-            FROM,
-            ANSWERED,
-            CALL_ID,
-            CSEQ,
-            b"",
-        ],
-        // its Route value, or its URI, cannot be read
-        &[
-            b"ACK sip:bob@192.0.2.4 SIP/2.0",
-            VIA,
-            SEVENTY,
-            b"Route: sip:192.0.2.5",
-            FROM,
-            ANSWERED,
-            CALL_ID,
-            CSEQ,
-            b"",
-        ],
-        &[
-            b"ACK sip:bob@ SIP/2.0",
-            VIA,
-            SEVENTY,
-            FROM,
-            ANSWERED,
-            CALL_ID,
-            CSEQ,
-            b"",
-        ],
-        // the proxy sent it on before
-        &[
-            b"ACK sip:bob@192.0.2.4;method=ACK SIP/2.0",
-            OWN_VIA,
-            SEVENTY,
-            b"Route: <sip:192.0.2.5:5062;lr>",
-            FROM,
-            ANSWERED,
-            CALL_ID,
-            CSEQ,
-            b"",
-        ],
-        // its body is cut short
-        &[
-            b"ACK sip:bob@192.0.2.4 SIP/2.0",
-            VIA,
-            SEVENTY,
-            FROM,
-            ANSWERED,
-            CALL_ID,
-            CSEQ,
-            b"l: 5",
-            b"",
-        ],
-    ];
-    for ack in lines {
+    for [start, via, forwards, more] in CANNOT_GO_ON {
+        let ack: [&[u8]; 9] = [
+            start, via, forwards, more, FROM, ANSWERED, CALL_ID, CSEQ, b"",
+        ];
         holds(
             &rt,
-            becomes_silently(&rt, rt.alloc(), ack) == Some(Handled::Dropped),
+            becomes_silently(&rt, rt.alloc(), &ack) == Some(Handled::Dropped),
             "an ACK that cannot go on",
         );
     }
