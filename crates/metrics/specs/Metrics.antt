@@ -19,6 +19,14 @@ kind_text kind.Histogram = codes "histogram"
 abbrev pub type_line : List ℕ → MetricKind → List ℕ
 type_line name kind = codes "# TYPE " ++ (name ++ (32 ∷ (kind_text kind ++ 10 ∷ [])))
 
+-- what is counted
+abbrev pub help_line : List ℕ → List ℕ → List ℕ
+help_line name help = codes "# HELP " ++ (name ++ (32 ∷ (help ++ 10 ∷ [])))
+
+-- what stands before the values of a name
+abbrev pub head_text : List ℕ → List ℕ → MetricKind → List ℕ
+head_text name help kind = help_line name help ++ type_line name kind
+
 -- what ends a line
 abbrev pub number_end : ℕ → List ℕ
 number_end n = 32 ∷ (decimal n ++ 10 ∷ [])
@@ -27,7 +35,7 @@ abbrev pub value_line : List ℕ → List ℕ → ℕ → List ℕ
 value_line name suffix value = name ++ (suffix ++ number_end value)
 
 abbrev pub metric_text : Metric → List ℕ
-metric_text m = type_line m.name.now m.kind ++ value_line m.name.now [] m.value
+metric_text m = head_text m.name.now m.help.now m.kind ++ value_line m.name.now [] m.value
 
 abbrev pub metrics_text : List Metric → List ℕ
 metrics_text metrics = flat_map metric_text metrics
@@ -44,7 +52,7 @@ abbrev pub labelled_text : List ℕ → List ℕ → List Labelled → List ℕ
 labelled_text name label values = flat_map (labelled_line name label) values
 
 abbrev pub family_text : Family → List ℕ
-family_text f = type_line f.name.now f.kind ++ labelled_text f.name.now f.label.now f.values.now
+family_text f = head_text f.name.now f.help.now f.kind ++ labelled_text f.name.now f.label.now f.values.now
 
 -- ---- histograms, of how long something took
 
@@ -87,5 +95,5 @@ ends_text name all sum =
 
 abbrev pub histogram_text : Histogram → List ℕ
 histogram_text h =
-    type_line h.name.now kind.Histogram
+    head_text h.name.now h.help.now kind.Histogram
     ++ (buckets_text h.name.now 0 h.buckets.now ++ ends_text h.name.now (plus (total_of 0 h.buckets.now) h.beyond) h.sum)

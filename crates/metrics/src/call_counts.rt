@@ -42,6 +42,7 @@ impl FailedCounts {
         ];
         let family = Family {
             name: b"forkproxy_calls_failed_total",
+            help: b"Calls that were forgotten without a 2xx, by the class of the status that went up.",
             kind: MetricKind::Counter,
             label: b"class",
             values: &values,
@@ -91,13 +92,41 @@ impl CallCounts {
 
     pub(crate) fn append(&self, text: &mut Vec<u8>) -> Result<(), AllocError> {
         let metrics = [
-            counter(b"forkproxy_calls_opened_total", &self.opened),
-            counter(b"forkproxy_calls_answered_total", &self.answered),
-            counter(b"forkproxy_calls_forgotten_total", &self.forgotten),
-            counter(b"forkproxy_calls_journaled_total", &self.journaled),
-            counter(b"forkproxy_calls_unwritten_total", &self.unwritten),
-            counter(b"forkproxy_timers_total", &self.timers),
-            counter(b"forkproxy_deadlines_missed_total", &self.missed),
+            counter(
+                b"forkproxy_calls_opened_total",
+                b"Calls that were opened.",
+                &self.opened,
+            ),
+            counter(
+                b"forkproxy_calls_answered_total",
+                b"Calls that were forgotten after a 2xx.",
+                &self.answered,
+            ),
+            counter(
+                b"forkproxy_calls_forgotten_total",
+                b"Calls that were forgotten.",
+                &self.forgotten,
+            ),
+            counter(
+                b"forkproxy_calls_journaled_total",
+                b"Calls that were written to the journal.",
+                &self.journaled,
+            ),
+            counter(
+                b"forkproxy_calls_unwritten_total",
+                b"Calls that could not be written to the journal.",
+                &self.unwritten,
+            ),
+            counter(
+                b"forkproxy_timers_total",
+                b"Calls that were looked at since something was due.",
+                &self.timers,
+            ),
+            counter(
+                b"forkproxy_deadlines_missed_total",
+                b"Moments at which a call is due that there was no memory to note.",
+                &self.missed,
+            ),
         ];
         append_metrics(text, &metrics)?;
         self.failed.append(text)

@@ -27,19 +27,21 @@ impl Count {
     }
 }
 
-/// A counter with its name.
-pub(crate) fn counter(name: &'static [u8], count: &Count) -> Metric<'static> {
+/// A counter with its name and what it counts.
+pub(crate) fn counter(name: &'static [u8], help: &'static [u8], count: &Count) -> Metric<'static> {
     Metric {
         name,
+        help,
         kind: MetricKind::Counter,
         value: count.value(),
     }
 }
 
-/// A value that rises and falls, with its name.
-pub(crate) fn gauge(name: &'static [u8], value: u64) -> Metric<'static> {
+/// A value that rises and falls, with its name and what it is.
+pub(crate) fn gauge(name: &'static [u8], help: &'static [u8], value: u64) -> Metric<'static> {
     Metric {
         name,
+        help,
         kind: MetricKind::Gauge,
         value,
     }

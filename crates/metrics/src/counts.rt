@@ -37,7 +37,14 @@ pub struct Gauges {
 /// Appends how much memory the process has, if that is known.
 fn append_resident(text: &mut Vec<u8>, resident: Option<u64>) -> Result<(), AllocError> {
     match resident {
-        Some(bytes) => append_metrics(text, &[gauge(b"process_resident_memory_bytes", bytes)]),
+        Some(bytes) => append_metrics(
+            text,
+            &[gauge(
+                b"process_resident_memory_bytes",
+                b"Memory of the process, in bytes.",
+                bytes,
+            )],
+        ),
         None => Ok(()),
     }
 }
@@ -63,10 +70,22 @@ impl Counts {
     pub fn text(&self, alloc: Global, gauges: Gauges) -> Result<Vec<u8>, AllocError> {
         let mut text = Vec::new(alloc);
         let metrics = [
-            gauge(b"forkproxy_uptime_seconds", gauges.seconds),
-            gauge(b"forkproxy_calls", gauges.held),
-            gauge(b"forkproxy_bindings", gauges.bindings),
-            gauge(b"forkproxy_calls_open", self.calls.open()),
+            gauge(
+                b"forkproxy_uptime_seconds",
+                b"For how many seconds the proxy serves.",
+                gauges.seconds,
+            ),
+            gauge(b"forkproxy_calls", b"Calls that are kept now.", gauges.held),
+            gauge(
+                b"forkproxy_bindings",
+                b"Contacts that are bound to users.",
+                gauges.bindings,
+            ),
+            gauge(
+                b"forkproxy_calls_open",
+                b"Calls with a branch that has not ended.",
+                self.calls.open(),
+            ),
         ];
         append_metrics(&mut text, &metrics)?;
         append_resident(&mut text, gauges.resident)?;
@@ -74,9 +93,16 @@ impl Counts {
         self.datagrams.append(&mut text)?;
         self.senders.append(&mut text)?;
         self.streams.append(&mut text)?;
-        self.latencies
-            .append(&mut text, b"forkproxy_handling_seconds")?;
-        self.commits.append(&mut text, b"forkproxy_store_seconds")?;
+        self.latencies.append(
+            &mut text,
+            b"forkproxy_handling_seconds",
+            b"How long datagrams took to be handled.",
+        )?;
+        self.commits.append(
+            &mut text,
+            b"forkproxy_store_seconds",
+            b"How long it took to keep the changes of bindings that waited, all at once.",
+        )?;
         Ok(text)
     }
 }

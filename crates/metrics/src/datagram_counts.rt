@@ -66,6 +66,7 @@ impl AnsweredCounts {
         ];
         let family = Family {
             name: b"forkproxy_answered_total",
+            help: b"Requests that the proxy answered without a call, by the status.",
             kind: MetricKind::Counter,
             label: b"status",
             values: &values,
@@ -103,11 +104,17 @@ impl SentCounts {
         ]
     }
 
-    /// Appends them under this name.
-    fn append(&self, text: &mut Vec<u8>, name: &'static [u8]) -> Result<(), AllocError> {
+    /// Appends them under this name, with what it counts.
+    fn append(
+        &self,
+        text: &mut Vec<u8>,
+        name: &'static [u8],
+        help: &'static [u8],
+    ) -> Result<(), AllocError> {
         let values = self.values();
         let family = Family {
             name,
+            help,
             kind: MetricKind::Counter,
             label: b"message",
             values: &values,
@@ -170,16 +177,56 @@ impl DatagramCounts {
     /// Appends what became of those that came.
     fn append_received(&self, text: &mut Vec<u8>) -> Result<(), AllocError> {
         let metrics = [
-            counter(b"forkproxy_received_total", &self.received),
-            counter(b"forkproxy_delivered_total", &self.delivered),
-            counter(b"forkproxy_forwarded_total", &self.forwarded),
-            counter(b"forkproxy_dropped_total", &self.dropped),
-            counter(b"forkproxy_keepalives_total", &self.keep_alives),
-            counter(b"forkproxy_absorbed_total", &self.absorbed),
-            counter(b"forkproxy_turned_away_total", &self.turned_away),
-            counter(b"forkproxy_limited_total", &self.limited),
-            counter(b"forkproxy_crowded_out_total", &self.crowded_out),
-            counter(b"forkproxy_no_memory_total", &self.no_memory),
+            counter(
+                b"forkproxy_received_total",
+                b"Datagrams and messages that came.",
+                &self.received,
+            ),
+            counter(
+                b"forkproxy_delivered_total",
+                b"Datagrams that a call took that was open before.",
+                &self.delivered,
+            ),
+            counter(
+                b"forkproxy_forwarded_total",
+                b"Datagrams that were sent on without a call.",
+                &self.forwarded,
+            ),
+            counter(
+                b"forkproxy_dropped_total",
+                b"Datagrams that cannot be read, or that no call takes.",
+                &self.dropped,
+            ),
+            counter(
+                b"forkproxy_keepalives_total",
+                b"Datagrams that only keep an address translation open.",
+                &self.keep_alives,
+            ),
+            counter(
+                b"forkproxy_absorbed_total",
+                b"ACKs for answers of the proxy's own.",
+                &self.absorbed,
+            ),
+            counter(
+                b"forkproxy_turned_away_total",
+                b"Requests that the proxy itself answered 503.",
+                &self.turned_away,
+            ),
+            counter(
+                b"forkproxy_limited_total",
+                b"Datagrams that were more than one source may send.",
+                &self.limited,
+            ),
+            counter(
+                b"forkproxy_crowded_out_total",
+                b"Datagrams that were left as too many waited for a worker.",
+                &self.crowded_out,
+            ),
+            counter(
+                b"forkproxy_no_memory_total",
+                b"Datagrams that were left for want of memory.",
+                &self.no_memory,
+            ),
         ];
         append_metrics(text, &metrics)?;
         self.answered.append(text)
@@ -188,12 +235,28 @@ impl DatagramCounts {
     /// Appends what became of those that were to be sent.
     fn append_sent(&self, text: &mut Vec<u8>) -> Result<(), AllocError> {
         let metrics = [
-            counter(b"forkproxy_lost_total", &self.lost),
-            counter(b"forkproxy_unsent_total", &self.unsent),
+            counter(
+                b"forkproxy_lost_total",
+                b"Datagrams that the system had no room for.",
+                &self.lost,
+            ),
+            counter(
+                b"forkproxy_unsent_total",
+                b"Datagrams that the system refused to send.",
+                &self.unsent,
+            ),
         ];
         append_metrics(text, &metrics)?;
-        self.sent.append(text, b"forkproxy_sent_total")?;
-        self.timed.append(text, b"forkproxy_timer_sent_total")
+        self.sent.append(
+            text,
+            b"forkproxy_sent_total",
+            b"Datagrams that were sent for one that came, by what they are.",
+        )?;
+        self.timed.append(
+            text,
+            b"forkproxy_timer_sent_total",
+            b"Datagrams that were sent since a timer fired, by what they are.",
+        )
     }
 
     pub(crate) fn append(&self, text: &mut Vec<u8>) -> Result<(), AllocError> {

@@ -51,8 +51,13 @@ impl Durations {
         }
     }
 
-    /// Appends the histogram, by this name.
-    pub(crate) fn append(&self, text: &mut Vec<u8>, name: &[u8]) -> Result<(), AllocError> {
+    /// Appends the histogram, by this name and with what took so long.
+    pub(crate) fn append(
+        &self,
+        text: &mut Vec<u8>,
+        name: &[u8],
+        help: &[u8],
+    ) -> Result<(), AllocError> {
         let buckets = [
             self.bucket(0),
             self.bucket(1),
@@ -62,6 +67,7 @@ impl Durations {
         ];
         let histogram = Histogram {
             name,
+            help,
             buckets: &buckets,
             beyond: self.count(5),
             sum: self.sum.value(),

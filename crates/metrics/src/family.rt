@@ -2,7 +2,7 @@
 ghost use Rattle.std.specs.Prelude.{◌≡◌, ◌++◌, OnOk};
 ghost use Rattle.metrics.specs.Metrics.{family_text, label_text, labelled_line, labelled_text};
 
-use crate::metric::{MetricKind, append_number, append_type};
+use crate::metric::{MetricKind, append_head, append_number};
 use std::alloc::{AllocError, Allocator};
 
 /// A value with what its label says. That text stands as it is: it has no quote, no backslash and no line feed.
@@ -16,6 +16,8 @@ pub struct Labelled<'a> {
 #[derive(Clone, Copy)]
 pub struct Family<'a> {
     pub name: &'a [u8],
+    /// What they are, in a line: no backslash and no line feed stand in it.
+    pub help: &'a [u8],
     pub kind: MetricKind,
     /// The name of the label.
     pub label: &'a [u8],
@@ -67,7 +69,7 @@ fn append_values<A: Allocator>(
     Ok(())
 }
 
-/// Appends the values of a family, all behind the one line that says of which kind they are.
+/// Appends the values of a family, all behind the lines that say what they are and of which kind.
 ///
 /// # Errors
 ///
@@ -78,6 +80,6 @@ pub fn append_family<A: Allocator>(
 ) -> Result<(), AllocError>
     ensures { OnOk result (out.new.items ≡ out.old.items ++ family_text family.now) }
 {
-    append_type(out, family.name, family.kind)?;
+    append_head(out, family.name, family.help, family.kind)?;
     append_values(out, family.name, family.label, family.values)
 }

@@ -2,7 +2,7 @@
 ghost use Rattle.std.specs.Prelude.{◌≡◌, ◌≤◌, ◌<◌, ◌++◌, ℕ, IfOk, OnOk, length, slice_index};
 ghost use Rattle.metrics.specs.Metrics.{bucket_line, buckets_text, class_name, ends_text, histogram_text, last_digit, plus, seconds_text, sum_line, total_of};
 
-use crate::metric::{MetricKind, append_number, append_type, append_value};
+use crate::metric::{MetricKind, append_head, append_number, append_value};
 use sip_lex::append_decimal;
 use std::alloc::{AllocError, Allocator};
 
@@ -17,6 +17,8 @@ pub struct HistogramClass {
 #[derive(Clone, Copy)]
 pub struct Histogram<'a> {
     pub name: &'a [u8],
+    /// What took so long, in a line: no backslash and no line feed stand in it.
+    pub help: &'a [u8],
     /// The classes, by bounds that rise.
     pub buckets: &'a [HistogramClass],
     /// How many were longer than the last bound.
@@ -155,7 +157,7 @@ pub fn append_histogram<A: Allocator>(
 ) -> Result<(), AllocError>
     ensures { OnOk result (out.new.items ≡ out.old.items ++ histogram_text histogram.now) }
 {
-    append_type(out, histogram.name, MetricKind::Histogram)?;
+    append_head(out, histogram.name, histogram.help, MetricKind::Histogram)?;
     let bounded = append_buckets(out, histogram.name, histogram.buckets)?;
     let all = all_of(bounded, histogram.beyond);
     append_ends(out, histogram.name, all, histogram.sum)?;

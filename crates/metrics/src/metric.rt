@@ -1,6 +1,6 @@
 //! Values that stand alone: counters and gauges.
 ghost use Rattle.std.specs.Prelude.{◌≡◌, ◌++◌, OnOk};
-ghost use Rattle.metrics.specs.Metrics.{kind_text, metric_text, metrics_text, number_end, type_line, value_line};
+ghost use Rattle.metrics.specs.Metrics.{head_text, help_line, kind_text, metric_text, metrics_text, number_end, type_line, value_line};
 
 use sip_lex::append_decimal;
 use std::alloc::{AllocError, Allocator};
@@ -20,6 +20,8 @@ pub enum MetricKind {
 #[derive(Clone, Copy)]
 pub struct Metric<'a> {
     pub name: &'a [u8],
+    /// What it is, in a line: no backslash and no line feed stand in it.
+    pub help: &'a [u8],
     pub kind: MetricKind,
     pub value: u64,
 }
@@ -36,7 +38,7 @@ fn kind_text(kind: MetricKind) -> &'static [u8]
 }
 
 /// Appends the line that says of which kind a name is.
-pub(crate) fn append_type<A: Allocator>(
+fn append_type<A: Allocator>(
     out: &mut Vec<u8, A>,
     name: &[u8],
     kind: MetricKind,
@@ -49,6 +51,35 @@ pub(crate) fn append_type<A: Allocator>(
     out.extend_from_slice(kind_text(kind))?;
     out.push(b'\n')?;
     Ok(())
+}
+
+/// Appends the line that says what a name counts.
+fn append_help<A: Allocator>(
+    out: &mut Vec<u8, A>,
+    name: &[u8],
+    help: &[u8],
+) -> Result<(), AllocError>
+    ensures { OnOk result (out.new.items ≡ out.old.items ++ help_line name.now help.now) }
+{
+    out.extend_from_slice(b"# HELP ")?;
+    out.extend_from_slice(name)?;
+    out.push(b' ')?;
+    out.extend_from_slice(help)?;
+    out.push(b'\n')?;
+    Ok(())
+}
+
+/// Appends what stands before the values of a name: what it counts, and of which kind it is.
+pub(crate) fn append_head<A: Allocator>(
+    out: &mut Vec<u8, A>,
+    name: &[u8],
+    help: &[u8],
+    kind: MetricKind,
+) -> Result<(), AllocError>
+    ensures { OnOk result (out.new.items ≡ out.old.items ++ head_text name.now help.now kind) }
+{
+    append_help(out, name, help)?;
+    append_type(out, name, kind)
 }
 
 /// Appends a space, a number and the end of the line.
@@ -78,11 +109,11 @@ pub(crate) fn append_value<A: Allocator>(
 fn append_metric<A: Allocator>(out: &mut Vec<u8, A>, metric: &Metric<'_>) -> Result<(), AllocError>
     ensures { OnOk result (out.new.items ≡ out.old.items ++ metric_text metric.now) }
 {
-    append_type(out, metric.name, metric.kind)?;
+    append_head(out, metric.name, metric.help, metric.kind)?;
     append_value(out, metric.name, b"", metric.value)
 }
 
-/// Appends values, each behind the line that says of which kind it is.
+/// Appends values, each behind the lines that say what it is and of which kind.
 ///
 /// # Errors
 ///

@@ -66,6 +66,7 @@ impl RegistrationCounts {
         ];
         let family = Family {
             name: b"forkproxy_registrations_total",
+            help: b"REGISTERs that were answered, by the status.",
             kind: MetricKind::Counter,
             label: b"status",
             values: &values,
@@ -109,13 +110,26 @@ impl SenderCounts {
 
     pub(crate) fn append(&self, text: &mut Vec<u8>) -> Result<(), AllocError> {
         let metrics = [
-            counter(b"forkproxy_challenged_total", &self.challenged),
-            counter(b"forkproxy_refused_total", &self.refused),
+            counter(
+                b"forkproxy_challenged_total",
+                b"Requests that were answered 401 or 407.",
+                &self.challenged,
+            ),
+            counter(
+                b"forkproxy_refused_total",
+                b"Requests that their senders may not make, answered otherwise than 401 or 407, and their ACKs.",
+                &self.refused,
+            ),
             counter(
                 b"forkproxy_wrong_credentials_total",
+                b"Credentials that were wrong, or another user's.",
                 &self.wrong_credentials,
             ),
-            counter(b"forkproxy_unkept_total", &self.unkept),
+            counter(
+                b"forkproxy_unkept_total",
+                b"Changes of bindings that the store refused to keep: nothing was changed.",
+                &self.unkept,
+            ),
         ];
         append_metrics(text, &metrics)?;
         self.registrations.append(text)

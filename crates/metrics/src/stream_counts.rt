@@ -80,6 +80,7 @@ impl StreamCounts {
         ];
         let family = Family {
             name: b"forkproxy_connections_opened_total",
+            help: b"Connections that peers opened, and that the proxy did.",
             kind: MetricKind::Counter,
             label: b"way",
             values: &values,
@@ -99,6 +100,7 @@ impl StreamCounts {
         ];
         let family = Family {
             name: b"forkproxy_connections_closed_total",
+            help: b"Connections that were closed, by the cause.",
             kind: MetricKind::Counter,
             label: b"cause",
             values: &values,
@@ -107,15 +109,42 @@ impl StreamCounts {
     }
 
     pub(crate) fn append(&self, text: &mut Vec<u8>) -> Result<(), AllocError> {
-        append_metrics(text, &[gauge(b"forkproxy_connections", self.open())])?;
+        append_metrics(
+            text,
+            &[gauge(
+                b"forkproxy_connections",
+                b"Connections that there are.",
+                self.open(),
+            )],
+        )?;
         self.append_opened(text)?;
         self.append_closed(text)?;
         let metrics = [
-            counter(b"forkproxy_connections_refused_total", &self.refused),
-            counter(b"forkproxy_stream_received_total", &self.received),
-            counter(b"forkproxy_stream_sent_total", &self.sent),
-            counter(b"forkproxy_stream_unsent_total", &self.unsent),
-            counter(b"forkproxy_stream_pings_total", &self.pings),
+            counter(
+                b"forkproxy_connections_refused_total",
+                b"Connections that were closed at once, as there were too many.",
+                &self.refused,
+            ),
+            counter(
+                b"forkproxy_stream_received_total",
+                b"Messages that came by connections.",
+                &self.received,
+            ),
+            counter(
+                b"forkproxy_stream_sent_total",
+                b"Messages that were written to connections, or wait to be.",
+                &self.sent,
+            ),
+            counter(
+                b"forkproxy_stream_unsent_total",
+                b"Messages for connections that were not written.",
+                &self.unsent,
+            ),
+            counter(
+                b"forkproxy_stream_pings_total",
+                b"Keep-alives that were answered on connections.",
+                &self.pings,
+            ),
         ];
         append_metrics(text, &metrics)
     }

@@ -265,12 +265,12 @@ fn what_is_counted_is_written(rt: HostRuntime) {
     counts.commits.add(700);
     counts.senders.unkept.add(2);
     let lines = [
-        "# TYPE forkproxy_uptime_seconds gauge\nforkproxy_uptime_seconds 3\n",
+        "# HELP forkproxy_uptime_seconds For how many seconds the proxy serves.\n# TYPE forkproxy_uptime_seconds gauge\nforkproxy_uptime_seconds 3\n",
         "\nforkproxy_calls 2\n",
         "\nforkproxy_calls_open 2\n",
         "\nprocess_resident_memory_bytes 4096\n",
         "\nforkproxy_calls_opened_total 5\n",
-        "# TYPE forkproxy_calls_failed_total counter\nforkproxy_calls_failed_total{class=\"3xx\"} 0\nforkproxy_calls_failed_total{class=\"4xx\"} 1\n",
+        "# HELP forkproxy_calls_failed_total Calls that were forgotten without a 2xx, by the class of the status that went up.\n# TYPE forkproxy_calls_failed_total counter\nforkproxy_calls_failed_total{class=\"3xx\"} 0\nforkproxy_calls_failed_total{class=\"4xx\"} 1\n",
         "\nforkproxy_calls_failed_total{class=\"6xx\"} 1\n",
         "\nforkproxy_deadlines_missed_total 4\n",
         "\nforkproxy_keepalives_total 6\n",
@@ -279,6 +279,7 @@ fn what_is_counted_is_written(rt: HostRuntime) {
         "\nforkproxy_timer_sent_total{message=\"request\"} 8\n",
         "forkproxy_handling_seconds_sum 0.000200\nforkproxy_handling_seconds_count 1\n",
         "\nforkproxy_unkept_total 2\n",
+        "# HELP forkproxy_store_seconds How long it took to keep the changes of bindings that waited, all at once.\n# TYPE forkproxy_store_seconds histogram\n",
         "\nforkproxy_store_seconds_sum 0.000700\nforkproxy_store_seconds_count 1\n",
     ];
     let found = lines_in(rt.alloc(), &counts, &lines);
