@@ -1,5 +1,5 @@
-// Loaded before the C library by the script `faults`: it refuses memory, moves the clock and holds up a send, as the script asks by a page of
-// memory that both have. The file of the page is named by FAULTS_PAGE.
+// Loaded before the C library by the scripts `faults` and `rows`: it refuses memory, moves the clock and holds up a send, as the script asks by a
+// page of memory that both have. The file of the page is named by FAULTS_PAGE.
 #include <arpa/inet.h>
 #include <dlfcn.h>
 #include <fcntl.h>
@@ -22,6 +22,8 @@ struct page {
     long port, milliseconds;
     // the size of the growth that was refused last
     long size;
+    // so many milliseconds have passed by every clock beyond those that have
+    long passed;
 };
 
 static struct page *page;
@@ -90,8 +92,12 @@ int clock_gettime(clockid_t which, struct timespec *moment)
     if (!own)
         own = (int (*)(clockid_t, struct timespec *))dlsym(RTLD_NEXT, "clock_gettime");
     int said = own(which, moment);
-    if (!said && which == CLOCK_REALTIME && page)
-        moment->tv_sec += page->ahead;
+    if (!said && page && (which == CLOCK_REALTIME || which == CLOCK_MONOTONIC)) {
+        long passed = __atomic_load_n(&page->passed, __ATOMIC_RELAXED);
+        long nanoseconds = moment->tv_nsec + passed % 1000 * 1000000;
+        moment->tv_sec += passed / 1000 + nanoseconds / 1000000000 + (which == CLOCK_REALTIME ? page->ahead : 0);
+        moment->tv_nsec = nanoseconds % 1000000000;
+    }
     return said;
 }
 

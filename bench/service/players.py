@@ -23,7 +23,7 @@ FORGOTTEN = 5.0
 # F_SETPIPE_SZ
 PIPE_SIZE = 1031
 # the words of the page that faults.c knows
-PAGE = ["most", "held", "refused", "ahead", "least_size", "greatest_size", "port", "milliseconds", "size"]
+PAGE = ["most", "held", "refused", "ahead", "least_size", "greatest_size", "port", "milliseconds", "size", "passed"]
 
 
 class Skipped(Exception):

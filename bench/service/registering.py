@@ -16,8 +16,13 @@ OUTSIDE = "127.0.0.2"
 TRUST = "trust 127.0.0.128/25"
 
 
+def hashed(algorithm, text):
+    """The hash of a text by MD5 or SHA-256, in digits."""
+    return hashlib.new("md5" if algorithm == "MD5" else "sha256", text.encode()).hexdigest()
+
+
 def md5(text):
-    return hashlib.md5(text.encode()).hexdigest()
+    return hashed("MD5", text)
 
 
 def password_of(user):
@@ -60,11 +65,11 @@ def nonce_in(text):
     raise RuntimeError("no challenge with MD5: " + text)
 
 
-def credentials(user, password, nonce, method, uri):
-    """The value of credentials, as RFC 7616 has them, with MD5."""
-    secret = md5(f"{user}:{REALM}:{password}")
-    response = md5(f"{secret}:{nonce}:00000001:0a4f113b:auth:{md5(f'{method}:{uri}')}")
-    return (f'Digest username="{user}", realm="{REALM}", nonce="{nonce}", uri="{uri}", response="{response}", algorithm=MD5, '
+def credentials(user, password, nonce, method, uri, algorithm="MD5"):
+    """The value of credentials, as RFC 7616 has them."""
+    secret = hashed(algorithm, f"{user}:{REALM}:{password}")
+    response = hashed(algorithm, f"{secret}:{nonce}:00000001:0a4f113b:auth:{hashed(algorithm, f'{method}:{uri}')}")
+    return (f'Digest username="{user}", realm="{REALM}", nonce="{nonce}", uri="{uri}", response="{response}", algorithm={algorithm}, '
             f'cnonce="0a4f113b", qop=auth, nc=00000001')
 
 
