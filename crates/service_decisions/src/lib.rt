@@ -9,6 +9,7 @@ mod contacts;
 mod gateways;
 mod making;
 mod moment;
+mod opening;
 mod place;
 mod registering;
 mod view;

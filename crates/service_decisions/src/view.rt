@@ -18,6 +18,7 @@ ghost use Rattle.service_decisions.specs.Serving.{realm_at};
 use crate::contacts::contacts_of;
 use crate::gateways::may_use_gateways;
 use crate::moment::{has_location, opens_standing, setup_for, token_for};
+use crate::opening::{OpensBy, decision_by};
 use crate::place::{Place, place_of};
 use authentication::{
     Arrival, CallAdmission, Decision as SenderDecision, Domain, RealmSecrets, Rule, decision_of,
@@ -101,7 +102,57 @@ fn counts(trusted: bool, serves_strangers: bool) -> bool
     !trusted && serves_strangers
 }
 
+/// A request that is opened by a rule and is for a place, and the service that it comes to.
+#[derive(Drop)]
+struct Opening<'a, A: Allocator + Clone> {
+    view: &'a ServiceView<'a, A>,
+    alloc: &'a A,
+    setup: &'a Setup<A>,
+    rule: Rule,
+    request: &'a Message<A>,
+    source: Hop,
+    place: &'a Place<A>,
+}
+
+impl<A: Allocator + Clone> OpensBy<A> for Opening<'_, A> {
+    ghost use Rattle.service_decisions.specs.SeenPlace.{seen_place};
+    ghost use Rattle.service_decisions.specs.SeenServing.{serving_of};
+    ghost use Rattle.service_decisions.specs.Served.{opened_at};
+
+    ghost standing = { λ o. o.setup.now };
+
+    ghost setup = { λ o held. opened_at (serving_of o.view.now) o.setup.now o.rule o.request.now o.source (seen_place o.place.now) held };
+
+    fn decision(&self, held: &UserBindings<A>) -> Result<Decision<A>, AllocError> {
+        self.view.opened_while(self, held)
+    }
+}
+
 impl<'a, A: Allocator + Clone> ServiceView<'a, A> {
+    /// By which setup a request is opened while so much is bound to its user.
+    fn opened_while(
+        &self,
+        opening: &Opening<'_, A>,
+        held: &UserBindings<A>,
+    ) -> Result<Decision<A>, AllocError>
+        ensures { IfOk result (λ decision. seen_decision opening.now.setup.now decision
+            ≡ dispatch.Opens (opened_at (serving_of self.now) opening.now.setup.now opening.now.rule opening.now.request.now opening.now.source (seen_place opening.now.place.now) held.now)) }
+    {
+        let contacts = contacts_of(opening.alloc.clone()?, held, self.moment)?;
+        let by_gateways = self.by_gateways(opening.rule, opening.source, opening.place);
+        let decision = setup_for(
+            opening.alloc.clone()?,
+            opening.setup,
+            self.settings.gateways(),
+            by_gateways,
+            opening.place,
+            &contacts,
+            self.token(),
+            opening.request,
+        )?;
+        Ok(decision)
+    }
+
     /// The realm that credentials are asked for, where there is one and there are users.
     pub(crate) fn realm(&self) -> Option<RealmSecrets<'a, A>>
         ensures { option_map seen_realm result ≡ realm_at (serving_of self.now) }
@@ -287,7 +338,7 @@ impl<'a, A: Allocator + Clone> ServiceView<'a, A> {
             && (may_use_gateways(self.settings, rule, source) && self.may_be_abroad(place))
     }
 
-    /// By which setup a request is opened that is for this place.
+    /// By which setup a request is opened that is for this place. Where nothing was ever bound, no lock is taken.
     fn opened_at<R: Wait>(
         &self,
         rt: &R,
@@ -301,19 +352,22 @@ impl<'a, A: Allocator + Clone> ServiceView<'a, A> {
         ensures { IfOk result (λ decision. (held : List Binding) × (seen_decision setup.now decision
             ≡ dispatch.Opens (opened_at (serving_of self.now) setup.now rule request.now source (seen_place place.now) held))) }
     {
-        let held = self.held(rt, alloc, user_at(place).unwrap_or(b""))?;
-        let contacts = contacts_of(alloc.clone()?, &held, self.moment)?;
-        let by_gateways = self.by_gateways(rule, source, place);
-        let decision = setup_for(
-            alloc.clone()?,
+        let opening = Opening {
+            view: self,
+            alloc,
             setup,
-            self.settings.gateways(),
-            by_gateways,
-            place,
-            &contacts,
-            self.token(),
+            rule,
             request,
-        )?;
+            source,
+            place,
+        };
+        if !self.has_bindings {
+            let none = UserBindings::new(alloc.clone()?);
+            let decision = opening.decision(&none)?;
+            return Ok(decision);
+        }
+        let user = user_at(place).unwrap_or(b"");
+        let decision = decision_by(rt, self.bindings, alloc, user, &opening)?;
         Ok(decision)
     }
 
