@@ -219,7 +219,9 @@ fn with_connections<'a>(alloc: Global, command: Command<'a>) -> Result<Command<'
     let no_tcp = Arg::new(alloc, "no-tcp")
         .long("no-tcp")
         .action(ArgAction::SetTrue)
-        .help("serves over UDP alone, takes no connection, and refuses locations and gateways over TCP");
+        .help(
+            "serves over UDP alone, takes no connection, and refuses locations and gateways over TCP",
+        );
     let most = Arg::new(alloc, "most-connections")
         .long("most-connections")
         .value_name("N")

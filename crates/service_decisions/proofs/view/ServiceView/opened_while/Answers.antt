@@ -7,6 +7,6 @@ use Rattle.service_decisions.proofs.view.ServiceView.opened_while.Goals as goal
 
 pub returns : goal.returns
 returns g c =
-  opened_so (serving_of c.args.self.now) c.args.opening.now.setup.now c.args.opening.now.rule c.args.opening.now.request.now c.args.opening.now.source (seen_place c.args.opening.now.place.now) c.args.held.now
-      c.gateways.result.now c.by_gateways-by_gateways.result c.deref.result.now c.token.result (seen_decision c.args.opening.now.setup.now c.in_ok-decision.decision)
-      c.gateways.ensures c.by_gateways-by_gateways.ensures (c.deref.ensures.value ∙ c.in_ok-contacts.ensures) c.token.ensures c.in_ok-decision.ensures
+    opened_so (serving_of c.args.self.now) c.args.opening.now.setup.now c.args.opening.now.rule c.args.opening.now.request.now c.args.opening.now.source (seen_place c.args.opening.now.place.now) c.args.held.now
+    c.gateways.result.now c.by_gateways-by_gateways.result c.deref.result.now c.token.result (seen_decision c.args.opening.now.setup.now c.in_ok-decision.decision)
+    c.gateways.ensures c.by_gateways-by_gateways.ensures (c.deref.ensures.value ∙ c.in_ok-contacts.ensures) c.token.ensures c.in_ok-decision.ensures
