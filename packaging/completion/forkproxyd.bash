@@ -1,11 +1,11 @@
 # Completion of forkproxyd and forkproxyd-run for bash.
 _forkproxyd() {
     local word=${COMP_WORDS[COMP_CWORD]} before=${COMP_WORDS[COMP_CWORD - 1]} at=$COMP_CWORD
-    local options="--config --users --control --journal --store --most-calls --most-bindings --workers --record-route --own-port --most-per-source --metrics --no-tcp --most-connections --most-connections-per-source --idle-seconds"
+    local options="--config --own --users --control --journal --store --secret --most-calls --most-bindings --workers --record-route --own-port --most-per-source --metrics --no-tcp --most-connections --most-connections-per-source --idle-seconds"
     COMPREPLY=()
     case $before in
-        --config | --users | --control | --journal | --store | --check-config) at=file ;;
-        --most-calls | --most-bindings | --workers | --most-per-source | --metrics | --most-connections | --most-connections-per-source | --idle-seconds) return ;;
+        --config | --users | --control | --journal | --store | --secret | --check-config) at=file ;;
+        --own | --most-calls | --most-bindings | --workers | --most-per-source | --metrics | --most-connections | --most-connections-per-source | --idle-seconds) return ;;
     esac
     if [[ ${1##*/} == forkproxyd-run ]]; then
         [[ $at != 1 ]] || at=file
@@ -23,7 +23,7 @@ _forkproxyd() {
     elif [[ $at != file && $at != 1 && ${COMP_WORDS[1]} == user ]]; then
         return
     elif [[ $at != file && $at != 1 && ${COMP_WORDS[1]} == --check-config ]]; then
-        options=--users
+        options="--own --users --no-tcp"
     fi
     if [[ $at == file ]]; then
         compopt -o filenames 2> /dev/null

@@ -3,13 +3,15 @@
 local -a serving
 serving=(
     '--config[the configuration]:file:_files'
+    '--own[where it receives, in place of the line own of the configuration]:address and port:'
     '--users[the users, where the configuration has a realm]:file:_files'
     '--journal[the file to which each call is written at its end]:file:_files'
     '--store[the file in which what telephones register is kept]:file:_files'
+    '--secret[64 hexadecimal digits, one file for all proxies behind a front]:file:_files'
     '--most-calls[how many calls are kept at most]:number:'
     '--most-bindings[how many contacts may be bound to all users]:number:'
     '--workers[how many threads receive and handle datagrams]:number:'
-    '--record-route[stay on the path of dialogs]'
+    '--record-route[stay on the path of dialogs, by this address or the own one]::address and port:'
     '--own-port[count the own address as the domain with the own port alone]'
     '--most-per-source[how many datagrams one address may send at once, and each second]:number:'
     '--no-tcp[serve over UDP alone]'
