@@ -41,7 +41,7 @@ install: $(PROGRAM)
 	$(INSTALL) -m 644 packaging/completion/forkproxyd.bash $(DESTDIR)$(BASHDIR)/forkproxyd
 	$(INSTALL) -m 644 packaging/completion/forkproxyd.bash $(DESTDIR)$(BASHDIR)/forkproxyd-run
 	$(INSTALL) -m 644 packaging/completion/forkproxyd.zsh $(DESTDIR)$(ZSHDIR)/_forkproxyd
-	$(INSTALL) -m 644 docs/SERVICE.md CHANGELOG.md THIRD-PARTY.md $(DESTDIR)$(DOCDIR)
+	$(INSTALL) -m 644 docs/SERVICE.md docs/CONFIGURATION.md docs/SCALING.md CHANGELOG.md THIRD-PARTY.md $(DESTDIR)$(DOCDIR)
 	$(INSTALL) -m 644 packaging/grafana-dashboard.json packaging/prometheus-rules.yml packaging/fail2ban-filter.conf $(DESTDIR)$(DOCDIR)/examples
 	$(INSTALL) -m 644 packaging/forkproxyd.logrotate $(DESTDIR)/etc/logrotate.d/forkproxyd
 	[ -e $(DESTDIR)/etc/default/forkproxyd ] || $(INSTALL) -m 644 packaging/forkproxyd.default $(DESTDIR)/etc/default/forkproxyd
