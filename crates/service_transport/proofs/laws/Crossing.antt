@@ -4,6 +4,7 @@ use denote.Param.Send.{IsSend, IsSync, sendable, struct_sync}
 use Rattle.std.proofs.Crossing.{crosses, frees, send}
 use Rattle.std.proofs.alloc.Global.TheSendSync as heap
 use Rattle.std.proofs.option.Option.TheSendSync as option
+use Rattle.std.proofs.vec.Vec.TheSendSync as vec
 use Rattle.std.specs.contracts.alloc.Global.{the_row as heap_row}
 use Rattle.std.specs.contracts.impls.GlobalAllocator.TheImpl.{ghosts}
 use Rattle.call_table.proofs.laws.Crossing.{epoch_sync}
@@ -16,6 +17,7 @@ use Rattle.proxy_threads.specs.contracts.groups.CallGroups as groups
 use Rattle.proxy_threads.specs.contracts.packet.Packet.{the_row as packet_row}
 use Rattle.service_admission.proofs.laws.Crossing as source
 use Rattle.service_admission.specs.contracts.limits.SourceLimits.{the_row as source_row}
+use Rattle.service_config.proofs.net.Net.TheSendSync as net
 use Rattle.service_transport.proofs.idle.IdleWorkers.TheSendSync as idle
 use Rattle.service_transport.specs.contracts.listening.ProxySockets as sockets
 use Rattle.service_transport.specs.contracts.receiving.Receiving as receiving
@@ -39,7 +41,13 @@ receiving_sync = struct_sync (shape receiving.the_type) (
   heap.the_field_sync,
   (
     search (crosses, sendable, option.the_field_sync),
-    (search (crosses, option.the_send, source_send), (idle.the_field_sync, (groups_sync, tt))),
+    (
+      search (crosses, option.the_send, source_send),
+      (
+        search (crosses, sendable, vec.the_field_sync, net.the_field_sync, heap.the_field_sync),
+        (idle.the_field_sync, (groups_sync, tt)),
+      ),
+    ),
   ),
 )
 
