@@ -4,7 +4,6 @@ use denote.Param.Send.{IsSend, IsSync, sendable, struct_sync}
 use Rattle.std.proofs.Crossing.{crosses, frees, send}
 use Rattle.std.proofs.alloc.Global.TheSendSync as heap
 use Rattle.std.proofs.option.Option.TheSendSync as option
-use Rattle.std.proofs.vec.Vec.TheSendSync as vec
 use Rattle.std.specs.contracts.alloc.Global.{the_row as heap_row}
 use Rattle.std.specs.contracts.impls.GlobalAllocator.TheImpl.{ghosts}
 use Rattle.call_table.proofs.laws.Crossing.{epoch_sync}
@@ -44,7 +43,7 @@ receiving_sync = struct_sync (shape receiving.the_type) (
     (
       search (crosses, option.the_send, source_send),
       (
-        search (crosses, sendable, vec.the_field_sync, net.the_field_sync, heap.the_field_sync),
+        search (crosses, sendable, net.the_sync),
         (idle.the_field_sync, (groups_sync, tt)),
       ),
     ),
