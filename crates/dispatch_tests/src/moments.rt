@@ -88,12 +88,14 @@ fn is_looked_at_in_steps<R: Wait>(rt: &R, alloc: Global) -> Option<bool> {
     let shelf = shelf_of(alloc)?;
     let mut outbox = Outbox::new(alloc);
     let opened = becomes(rt, alloc, &shelf, &[], &mut outbox);
+    let asked = shelf.with(rt, 0, |call| step(call, &mut outbox, 0));
     let before = looked_at(rt, &shelf, 511);
     let taken = lines_become(rt, alloc, &shelf, &NOT_FOUND, &mut outbox);
     let carried = shelf.with(rt, 0, |call| step(call, &mut outbox, 7));
     let behind = looked_at(rt, &shelf, 5_007);
     Some(
         opened == Some(Handled::Opened(0))
+            && asked == Some(NextStep::At(500))
             && before == Some(511)
             && taken == Some(Handled::Delivered(0))
             && carried.is_some()
