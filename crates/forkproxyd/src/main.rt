@@ -417,6 +417,7 @@ fn served_at<
     R: Threads
         + Wait
         + Net
+        + ConnectionSockets
         + ProxyFiles
         + PageSockets
         + ProxyStores
